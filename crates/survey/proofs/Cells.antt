@@ -15,26 +15,30 @@ use Rattle.survey.specs.Survey.{pick, sum-at, largest, second, many, open-abov
 -- what pick gives where the test is true, and where it is false
 pub pick-true : {A : Type 0} (t : Bool) (x y : A) → t ≡ true → pick t x y ≡ x
 pick-true t x y e = rw e
+
 pub pick-false : {A : Type 0} (t : Bool) (x y : A) → t ≡ false → pick t x y ≡ y
 pick-false t x y e = rw e
 
 -- the two cases of a pick by two numbers being the same
 pub pick-eqb : (m k x y : ℕ) → ((m ≡ k) × (pick (eqb m k) x y ≡ x)) ⊎ ((m ≢ k) × (pick (eqb m k) x y ≡ y))
 pick-eqb m k x y = elim (cases-bool (eqb m k)) [
-      inl e ↦ inl (eqb-true m k e, pick-true (eqb m k) x y e)
-    | inr e ↦ inr (eqb-false m k e, pick-false (eqb m k) x y e) ]
+  | inl e ↦ inl (eqb-true m k e, pick-true (eqb m k) x y e)
+  | inr e ↦ inr (eqb-false m k e, pick-false (eqb m k) x y e)
+]
 
 -- a pick by two numbers that are the same, and by two that are not
 pub pick-same : (m k x y : ℕ) → m ≡ k → pick (eqb m k) x y ≡ x
 pick-same m k x y e = omega (arith, pick-eqb m k x y)
+
 pub pick-other : (m k x y : ℕ) → m ≢ k → pick (eqb m k) x y ≡ y
 pick-other m k x y ne = omega (arith, pick-eqb m k x y)
 
 -- the two cases of a pick by one number being below another
 pub pick-ltb : (m k x y : ℕ) → ((m < k) × (pick (ltb m k) x y ≡ x)) ⊎ ((k ≤ m) × (pick (ltb m k) x y ≡ y))
 pick-ltb m k x y = elim (cases-bool (ltb m k)) [
-      inl e ↦ inl (ltb-true m k e, pick-true (ltb m k) x y e)
-    | inr e ↦ inr (ltb-false m k e, pick-false (ltb m k) x y e) ]
+  | inl e ↦ inl (ltb-true m k e, pick-true (ltb m k) x y e)
+  | inr e ↦ inr (ltb-false m k e, pick-false (ltb m k) x y e)
+]
 
 -- one workshop more in front: the sum
 pub sum-at-cons : (k m v : ℕ) (ms vs : List ℕ) → sum-at k (m ∷ ms) (v ∷ vs) ≡ pick (eqb m k) v 0 + sum-at k ms vs
@@ -61,12 +65,15 @@ many-cons k m ms = refl
 pub no-sum : (k : ℕ) (vs : List ℕ) → sum-at k [] vs ≡ 0
 unfolding sum-at
 no-sum k vs = refl
+
 pub no-largest : (k : ℕ) (vs : List ℕ) → largest k [] vs ≡ 0
 unfolding largest
 no-largest k vs = refl
+
 pub no-second : (k : ℕ) (vs : List ℕ) → second k [] vs ≡ 0
 unfolding second
 no-second k vs = refl
+
 pub no-many : (k : ℕ) → many k [] ≡ 0
 unfolding many
 no-many k = refl
@@ -75,9 +82,11 @@ no-many k = refl
 pub sum-without : (k m : ℕ) (ms : List ℕ) → sum-at k (m ∷ ms) [] ≡ 0
 unfolding sum-at
 sum-without k m ms = refl
+
 pub largest-without : (k m : ℕ) (ms : List ℕ) → largest k (m ∷ ms) [] ≡ 0
 unfolding largest
 largest-without k m ms = refl
+
 pub second-without : (k m : ℕ) (ms : List ℕ) → second k (m ∷ ms) [] ≡ 0
 unfolding second
 second-without k m ms = refl
@@ -85,32 +94,46 @@ second-without k m ms = refl
 -- a workshop of cell k in front is counted, and one of another cell is not
 pub many-step : (k m : ℕ) (ms : List ℕ) → ((m ≡ k) × (many k (m ∷ ms) ≡ suc (many k ms))) ⊎ ((m ≢ k) × (many k (m ∷ ms) ≡ many k ms))
 many-step k m ms = elim (pick-eqb m k 1 0) [
-      inl p ↦ inl (p .0, omega (arith, many-cons k m ms))
-    | inr p ↦ inr (p .0, omega (arith, many-cons k m ms)) ]
+  | inl p ↦ inl (p .0, omega (arith, many-cons k m ms))
+  | inr p ↦ inr (p .0, omega (arith, many-cons k m ms))
+]
 
 -- a workshop of cell k in front counts in all four, and one of another cell in none
 pub cell-step : (k m v : ℕ) (ms vs : List ℕ) →
     ((m ≡ k) × (sum-at k (m ∷ ms) (v ∷ vs) ≡ v + sum-at k ms vs) × (largest k (m ∷ ms) (v ∷ vs) ≡ max v (largest k ms vs))
-      × (((v < largest k ms vs) × (second k (m ∷ ms) (v ∷ vs) ≡ max v (second k ms vs)))
-        ⊎ ((largest k ms vs ≤ v) × (second k (m ∷ ms) (v ∷ vs) ≡ largest k ms vs)))
-      × (many k (m ∷ ms) ≡ suc (many k ms)))
+    × (((v < largest k ms vs) × (second k (m ∷ ms) (v ∷ vs) ≡ max v (second k ms vs)))
+    ⊎ ((largest k ms vs ≤ v) × (second k (m ∷ ms) (v ∷ vs) ≡ largest k ms vs)))
+    × (many k (m ∷ ms) ≡ suc (many k ms)))
     ⊎ ((m ≢ k) × (sum-at k (m ∷ ms) (v ∷ vs) ≡ sum-at k ms vs) × (largest k (m ∷ ms) (v ∷ vs) ≡ largest k ms vs)
-      × (second k (m ∷ ms) (v ∷ vs) ≡ second k ms vs) × (many k (m ∷ ms) ≡ many k ms))
+    × (second k (m ∷ ms) (v ∷ vs) ≡ second k ms vs) × (many k (m ∷ ms) ≡ many k ms))
 cell-step k m v ms vs = elim (pick-eqb m k v 0) [
-      inl p ↦ inl (p .0, omega (arith, sum-at-cons k m v ms vs), omega (arith, largest-cons k m v ms vs), behind (p .0),
-        omega (arith, many-step k m ms))
-    | inr p ↦ inr (p .0, omega (arith, sum-at-cons k m v ms vs), omega (arith, largest-cons k m v ms vs),
-        omega (arith, second-cons k m v ms vs, pick-eqb m k (pick (ltb v L) (max v S) L) S), omega (arith, many-step k m ms)) ]
+  | inl p ↦ inl (
+    p .0,
+    omega (arith, sum-at-cons k m v ms vs),
+    omega (arith, largest-cons k m v ms vs),
+    behind (p .0),
+    omega (arith, many-step k m ms),
+  )
+  | inr p ↦ inr (
+    p .0,
+    omega (arith, sum-at-cons k m v ms vs),
+    omega (arith, largest-cons k m v ms vs),
+    omega (arith, second-cons k m v ms vs, pick-eqb m k (pick (ltb v L) (max v S) L) S),
+    omega (arith, many-step k m ms),
+  )
+]
   where
     L : ℕ
     L = largest k ms vs
+
     S : ℕ
     S = second k ms vs
+
     behind : m ≡ k → ((v < L) × (second k (m ∷ ms) (v ∷ vs) ≡ max v S)) ⊎ ((L ≤ v) × (second k (m ∷ ms) (v ∷ vs) ≡ L))
     behind e =
-      let here : second k (m ∷ ms) (v ∷ vs) ≡ pick (ltb v L) (max v S) L
-          = omega (arith, second-cons k m v ms vs, pick-eqb m k (pick (ltb v L) (max v S) L) S) in
-      elim (pick-ltb v L (max v S) L) [ inl p ↦ inl (p .0, here ∙ p .1) | inr p ↦ inr (p .0, here ∙ p .1) ]
+        let here : second k (m ∷ ms) (v ∷ vs) ≡ pick (ltb v L) (max v S) L
+        = omega (arith, second-cons k m v ms vs, pick-eqb m k (pick (ltb v L) (max v S) L) S) in
+        elim (pick-ltb v L (max v S) L) [ inl p ↦ inl (p .0, here ∙ p .1) | inr p ↦ inr (p .0, here ∙ p .1) ]
 
 -- the second largest is at most the largest
 pub second-le-largest : (k : ℕ) (ms vs : List ℕ) → second k ms vs ≤ largest k ms vs
@@ -157,8 +180,9 @@ pub lone-sum : (k : ℕ) (ms vs : List ℕ) → many k ms ≤ 1 → sum-at k ms 
 lone-sum k [] vs h = omega (arith, no-sum k vs, no-largest k vs)
 lone-sum k (m ∷ ms) [] h = omega (arith, sum-without k m ms, largest-without k m ms)
 lone-sum k (m ∷ ms) (v ∷ vs) h = elim (many-step k m ms) [
-      inl p ↦ omega (arith, cell-step k m v ms vs, none-sum k ms vs (omega arith), two-le-sum k ms vs)
-    | inr p ↦ omega (arith, cell-step k m v ms vs, lone-sum k ms vs (omega arith)) ]
+  | inl p ↦ omega (arith, cell-step k m v ms vs, none-sum k ms vs (omega arith), two-le-sum k ms vs)
+  | inr p ↦ omega (arith, cell-step k m v ms vs, lone-sum k ms vs (omega arith))
+]
 
 -- where no workshop has the mark k, none is counted
 pub none-counted : (k : ℕ) (ms : List ℕ) → ((i : ℕ) → i < length ms → getD ms i 0 ≢ k) → many k ms ≡ 0
@@ -218,15 +242,18 @@ attained-joined k m v ms vs here (inl (a, b, d, p, q, e, f)) =
     let step = cell-step k m v ms vs in
     let below = second-le-largest k ms vs in
     elim (cases-lt v (largest k ms vs)) [
-      inl l ↦ elim (cases-lt v (second k ms vs)) [
-          inl u ↦ inl (suc a, suc b, omega arith, (omega arith, p .1), (omega arith, q .1), omega arith, omega arith)
-        | inr u ↦ inl (suc a, zero, omega arith, (omega arith, p .1), (omega arith, here), omega arith, omega arith) ]
-    | inr l ↦ inl (zero, suc a, omega arith, (omega arith, here), (omega arith, p .1), omega arith, omega arith) ]
+      | inl l ↦ elim (cases-lt v (second k ms vs)) [
+        | inl u ↦ inl (suc a, suc b, omega arith, (omega arith, p .1), (omega arith, q .1), omega arith, omega arith)
+        | inr u ↦ inl (suc a, zero, omega arith, (omega arith, p .1), (omega arith, here), omega arith, omega arith)
+      ]
+      | inr l ↦ inl (zero, suc a, omega arith, (omega arith, here), (omega arith, p .1), omega arith, omega arith)
+    ]
 attained-joined k m v ms vs here (inr (inl (a, n, p, e, f))) =
     let step = cell-step k m v ms vs in
     elim (cases-lt v (largest k ms vs)) [
-      inl l ↦ inl (suc a, zero, omega arith, (omega arith, p .1), (omega arith, here), omega arith, omega arith)
-    | inr l ↦ inl (zero, suc a, omega arith, (omega arith, here), (omega arith, p .1), omega arith, omega arith) ]
+      | inl l ↦ inl (suc a, zero, omega arith, (omega arith, p .1), (omega arith, here), omega arith, omega arith)
+      | inr l ↦ inl (zero, suc a, omega arith, (omega arith, here), (omega arith, p .1), omega arith, omega arith)
+    ]
 attained-joined k m v ms vs here (inr (inr (n, e, f))) =
     let step = cell-step k m v ms vs in
     inr (inl (zero, omega arith, (omega arith, here), omega arith, omega arith))
@@ -236,8 +263,9 @@ pub attained : (k : ℕ) (ms vs : List ℕ) → length vs ≡ length ms → Atta
 attained k [] vs e = inr (inr (no-many k, no-largest k vs, no-second k vs))
 attained k (m ∷ ms) [] e = absurd (omega arith)
 attained k (m ∷ ms) (v ∷ vs) e = elim (cases-eq m k) [
-      inl here ↦ attained-joined k m v ms vs here (attained k ms vs (omega arith))
-    | inr ne ↦ attained-past k m v ms vs ne (attained k ms vs (omega arith)) ]
+  | inl here ↦ attained-joined k m v ms vs here (attained k ms vs (omega arith))
+  | inr ne ↦ attained-past k m v ms vs ne (attained k ms vs (omega arith))
+]
 
 -- more turnover, more must stay open above it
 pub open-above-le : (p v w : ℕ) → v ≤ w → open-above p v ≤ open-above p w

@@ -1,0 +1,4 @@
+-- The crate's lemmas.
+pub mod BarLaw
+pub mod Least
+pub mod OneOrOther

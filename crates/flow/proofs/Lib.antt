@@ -1,0 +1,12 @@
+-- The crate's lemmas.
+pub mod Below
+pub mod Tables
+pub mod Parts
+pub mod Balance
+pub mod Reach
+pub mod Settled
+pub mod Moves
+pub mod Walk
+pub mod Partial
+pub mod Stuck
+pub mod Runs

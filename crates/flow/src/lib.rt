@@ -1,0 +1,1 @@
+ghost use Rattle.flow.specs.Ways.{Run};
