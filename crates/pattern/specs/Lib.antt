@@ -1,2 +1,3 @@
--- What the crate's contracts cite besides the survey's statements.
+-- What the crate's contracts cite.
+pub mod Blanks
 pub mod Converse

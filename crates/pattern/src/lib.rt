@@ -1,5 +1,8 @@
+// Patterns of blanks, and the promise that a pattern which protects makes a page safe.
 ghost use Rattle.survey.specs.Promise.{Guard, By-itself, More-hidden};
 ghost use Rattle.pattern.specs.Converse.{Safe-unprotected};
+
+pub mod blanks;
 
 // A protected page is safe: no workshop can tell of another that its turnover lies below p per cent above its own.
 pub fn protected_is_safe()
