@@ -3,7 +3,7 @@
 ghost use mathlib.Core.Path.{_≡_};
 ghost use mathlib.Core.Bool.{Bool, true, false};
 ghost use Prim.Native.Nat.{ℕ, _≤_};
-ghost use lib.Dec.{ltb};
+ghost use lib.Dec.{leb, ltb};
 ghost use lib.ListN.{length};
 ghost use Rattle.survey.specs.Lending.{Written, Fills};
 ghost use Rattle.survey.specs.Model.{model, size};
@@ -16,12 +16,19 @@ use survey::checked::Survey;
 use survey::refusal::Lent;
 use survey::refusal::Refusal;
 
+// Whether a byte of a pattern is 0 or 1.
+fn is_mark(byte: u8) -> bool
+    ensures { λ r. ⌜ r ≡ leb byte 1 ⌝ }
+{
+    byte <= 1
+}
+
 // The refusal of the first byte that is neither 0 nor 1.
 fn first_odd_byte(bytes: &[u8]) -> Option<Refusal>
     ensures { λ r. ⌜ r ≡ first-odd (now (bytes .entry)) 0 ⌝ }
 {
     for (i, byte) in bytes.iter().enumerate() {
-        if *byte > 1 {
+        if !is_mark(*byte) {
             return Some(Refusal::Pattern(i));
         }
     }
