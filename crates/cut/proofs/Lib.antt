@@ -1,4 +1,5 @@
 -- The crate's lemmas.
 pub mod BarLaw
+mod Deciding
 pub mod Least
 pub mod OneOrOther

@@ -1,2 +1,3 @@
 -- What the crate's contracts cite.
+pub mod Bars
 pub mod Least

@@ -1,11 +1,12 @@
 -- What holds of some number below a bound, and of the least such.
 use mathlib.Core.Path.{_≡_, refl}
+use mathlib.Core.Logic.{inl, inr}
 use mathlib.Core.Bool.{Bool, true, false}
 use Prim.Native.Nat.{ℕ, zero, suc, _<_}
 use native.Mathlib.Omega.{arith}
 use Rattle.std.specs.Orderings.{Decides}
 use Rattle.std.proofs.shelf.Ways.{decides-below-or}
-use Rattle.std.proofs.shelf.Tests.{both-ways, or-from}
+use Rattle.std.proofs.shelf.Tests.{both-ways, or-from, cases-order}
 use Rattle.survey.specs.Survey.{pick}
 use Rattle.flow.specs.Ways.{any-below, least}
 
@@ -48,3 +49,27 @@ least-is p (suc n) e = at (any-below p n) refl (p n) refl (least-is p n)
     at true t d u m = record { below = omega (arith, m t .below); has = m t .has; first = m t .first }
     at false t true u m = record { below = omega arith; has = u; first = λ k l. any-below-none p n k t l }
     at false t false u m = absurd (both-ways _ (or-from (p n) (any-below p n) u t) e)
+
+-- there is one least
+pub least-one : (p : ℕ → Bool) (n m : ℕ) → Least p n m → least p n ≡ m
+least-one p n m is =
+    let it = least-is p n (any-below-from p n m (is .below) (is .has)) in
+    elim (cases-order (least p n) m) [
+      | inl same ↦ same
+      | inr (inl low) ↦ absurd (both-ways _ (is .first (least p n) low) (it .has))
+      | inr (inr high) ↦ absurd (both-ways _ (it .first m high) (is .has))
+    ]
+
+module _ (p q : ℕ → Bool) where
+  -- the same tests: there is one or none for both
+  pub any-below-cong : (n : ℕ) → ((k : ℕ) → k < n → p k ≡ q k) → any-below p n ≡ any-below q n
+  unfolding any-below
+  any-below-cong zero same = refl
+  any-below-cong (suc n) same = rw (same n (omega arith), any-below-cong n (λ k l. same k (omega arith)))
+
+  -- and the least is the same
+  pub least-cong : (n : ℕ) → ((k : ℕ) → k < n → p k ≡ q k) → least p n ≡ least q n
+  unfolding least
+  least-cong zero same = refl
+  least-cong (suc n) same =
+      rw (same n (omega arith), any-below-cong n (λ k l. same k (omega arith)), least-cong n (λ k l. same k (omega arith)))

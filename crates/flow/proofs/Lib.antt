@@ -10,3 +10,9 @@ pub mod Walk
 pub mod Partial
 pub mod Stuck
 pub mod Runs
+mod Filled
+mod Scanning
+mod Tests
+mod Rounds
+mod Trails
+mod Searches

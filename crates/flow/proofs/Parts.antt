@@ -1,15 +1,15 @@
 -- Which cells take part, and which of them can fall.
-use mathlib.Core.Path.{_≡_, refl}
+use mathlib.Core.Path.{_≡_, refl, sym, _∙_}
 use mathlib.Core.Logic.{_≢_, _⊎_, inl, inr}
 use mathlib.Core.Bool.{true, false, not}
 use Prim.Native.Nat.{ℕ, _-_, _≤_, _<_}
 use native.Mathlib.Omega.{arith}
-use lib.Dec.{eqb}
-use Rattle.std.proofs.shelf.Tests.{both-ways, and-parts, and-from, and-cases, not-true, not-from-false, eqb-false, ne-eqb, ltb-true, ltb-false, lt-ltb, cases-bool}
+use lib.Dec.{ltb, eqb}
+use Rattle.std.proofs.shelf.Tests.{both-ways, and-parts, and-from, and-cases, not-true, not-from-false, eqb-false, ne-eqb, ltb-true, ltb-false, lt-ltb, le-ltb, and-left, and-right, cases-bool, cases-lt}
 use Rattle.survey.specs.Survey.{pick, largest, many}
 use Rattle.survey.specs.Page.{Survey, Pattern, hidden, true-sum}
 use Rattle.survey.specs.Promise.{may-give}
-use Rattle.flow.specs.Ways.{takes-part, can-fall}
+use Rattle.flow.specs.Ways.{takes-part, spare, can-fall}
 use Rattle.flow.proofs.Below.{false-since}
 
 module _ (s : Survey) (h : Pattern) (c d : ℕ) where
@@ -64,3 +64,28 @@ module _ (s : Survey) (h : Pattern) (c d : ℕ) where
     pub no-fall : takes-part s h c d ≡ true → can-fall s h c y d ≡ false → y d ≤ largest d (s .cells) (s .values)
     unfolding can-fall
     no-fall t f = elim (and-cases (takes-part s h c d) _ f) [ inl e ↦ absurd (both-ways _ e t) | inr e ↦ ltb-false _ _ e ]
+
+module _ (s : Survey) (h : Pattern) (c d : ℕ) where
+  -- the test of a hidden cell other than the raised one
+  pub part-test : (w : ℕ) → hidden h d ≡ true → d ≢ c → w ≡ many d (s .cells) → ltb 1 w ≡ takes-part s h c d
+  unfolding takes-part
+  part-test w t o is = rw (is, t, ne-eqb d c o)
+
+  -- a printed cell takes no part
+  pub part-printed : hidden h d ≡ false → takes-part s h c d ≡ false
+  unfolding takes-part
+  part-printed f = and-left _ _ f
+
+  module _ (y : ℕ → ℕ) where
+    -- the test of a cell that takes part
+    pub fall-test : (x : ℕ) → takes-part s h c d ≡ true → x ≡ spare s y d → ltb 0 x ≡ can-fall s h c y d
+    unfolding can-fall spare
+    fall-test x t is = elim (cases-lt (largest d (s .cells) (s .values)) (y d)) [
+      | inl l ↦ lt-ltb 0 x (omega arith) ∙ sym (and-from _ _ t (lt-ltb _ _ l))
+      | inr l ↦ le-ltb 0 x (omega arith) ∙ sym (and-right (takes-part s h c d) _ (le-ltb _ _ l))
+    ]
+
+    -- a cell that takes no part can't fall
+    pub no-part-fall : takes-part s h c d ≡ false → can-fall s h c y d ≡ false
+    unfolding can-fall
+    no-part-fall f = and-left _ _ f

@@ -4,7 +4,7 @@ use mathlib.Core.Logic.{_⊎_, inl, inr}
 use mathlib.Core.Bool.{Bool, true, false, not, _&&_}
 use Prim.Native.Nat.{ℕ, zero, suc, _-_, _*_, _/_, _%_, _≤_, _<_}
 use native.Mathlib.Omega.{arith}
-use Rattle.std.proofs.shelf.Tests.{both-ways, and-parts, and-from, not-true, not-from-false, cases-bool}
+use Rattle.std.proofs.shelf.Tests.{both-ways, and-parts, and-from, not-true, not-from-false, cases-bool, cases-eq, cases-lt}
 use Rattle.std.proofs.shelf.Bits.{div-below}
 use Rattle.survey.specs.Survey.{pick}
 use Rattle.survey.specs.Page.{Survey, Pattern, span}
@@ -13,7 +13,7 @@ use Rattle.survey.proofs.Cells.{pick-true, pick-false}
 use Rattle.flow.specs.Ways.{any-below, row-reached, column-reached, way-left}
 use Rattle.flow.proofs.Below.{any-below-has, any-below-none, false-since}
 use Rattle.flow.proofs.Tables.{span-ones}
-use Rattle.flow.proofs.Reach.{own-row, row-kept, row-from, row-new, column-from, way-none, column-has}
+use Rattle.flow.proofs.Reach.{own-row, only-own-row, row-kept, row-from, row-new, column-from, way-none, column-has}
 
 -- a mark counts as much where it stays
 mark-le : (a b : Bool) → (a ≡ true → b ≡ true) → pick a 1 0 ≤ pick b 1 0
@@ -74,6 +74,37 @@ module _ (s : Survey) (h : Pattern) (c : ℕ) (y : ℕ → ℕ) where
         row-from s h c y n r k j (column-settled n k (λ r l. st r l) (both .0)) (both .1)
   ]
 
+  -- the raised cell's row stays reached
+  own-stays : (n : ℕ) → row-reached s h c y n (c / s .columns) ≡ true
+  own-stays zero = own-row s h c y
+  own-stays (suc n) = row-kept s h c y n _ (own-stays n)
+
+  -- a row that is reached stays reached
+  pub row-later : (n m r : ℕ) → m ≤ n → row-reached s h c y m r ≡ true → row-reached s h c y n r ≡ true
+  row-later zero m r l t = let e : m ≡ 0 = omega arith in subst (λ i. row-reached s h c y i r ≡ true) e t
+  row-later (suc n) m r l t = elim (cases-eq m (suc n)) [
+    | inl e ↦ subst (λ i. row-reached s h c y i r ≡ true) e t
+    | inr off ↦ row-kept s h c y n r (row-later n m r (omega arith) t)
+  ]
+
+  -- where the reach has stopped, all that is ever reached is reached
+  pub rows-within : (n : ℕ) → Settled n → (m r : ℕ) → r < s .rows → row-reached s h c y m r ≡ true → row-reached s h c y n r ≡ true
+  unfolding Settled
+  rows-within n st zero r l t = subst (λ i. row-reached s h c y n i ≡ true) (sym (only-own-row s h c y r t)) (own-stays n)
+  rows-within n st (suc m) r l t = elim (cases-bool (row-reached s h c y m r)) [
+    | inl u ↦ rows-within n (λ i p. st i p) m r l u
+    | inr u ↦
+        let (k, j, v) = any-below-has _ _ (row-new s h c y m r t u) in
+        let both = and-parts (column-reached s h c y m k) _ v in
+        let (i, p, q, w) = column-has s h c y m k (both .0) in
+        st r l (row-from s h c y n r k j (column-from s h c y n i k p (rows-within n (λ i p. st i p) m i p q) w) (both .1))
+  ]
+
+  -- and so for columns
+  pub columns-within : (n : ℕ) → Settled n → (m k : ℕ) → column-reached s h c y m k ≡ true → column-reached s h c y n k ≡ true
+  columns-within n st m k t =
+      let (i, p, q, w) = column-has s h c y m k t in column-from s h c y n i k p (rows-within n st m i p q) w
+
   module _ (some : 0 < s .columns) (inside : c < s .rows * s .columns) where
     -- the reach has stopped, or there are more rows than rounds
     settled-or-many : (n : ℕ) → Settled n ⊎ (n < reached-many n)
@@ -115,3 +146,11 @@ module _ (s : Survey) (h : Pattern) (c : ℕ) (y : ℕ → ℕ) where
     column-free f = subst (λ n. column-reached s h c y n (c % s .columns) ≡ false) (sym last-row)
         (false-since _ (λ t. both-ways _ (way-none s h c y (s .rows - 1) f (omega (arith, last-row)))
         (column-settled (s .rows - 1) _ (settled-last (s .rows - 1) last-row) t)))
+
+    -- a round that adds a row is not the last
+    pub unsettled-below : (n r : ℕ) → r < s .rows → row-reached s h c y (suc n) r ≡ true → row-reached s h c y n r ≡ false → suc n < s .rows
+    unsettled-below n r l t f = elim (cases-lt (suc n) (s .rows)) [
+      | inl low ↦ low
+      | inr high ↦ absurd (both-ways _ f (row-later n (s .rows - 1) r (omega arith)
+          (rows-within (s .rows - 1) (settled-last (s .rows - 1) last-row) (suc n) r l t)))
+    ]

@@ -1,0 +1,3 @@
+-- Lemmas of the crate's proofs.
+mod Sizes
+mod Words

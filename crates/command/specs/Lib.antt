@@ -1,0 +1,5 @@
+-- What the crate's contracts cite.
+pub mod Call
+pub mod Limits
+pub mod Parts
+pub mod Talk

@@ -1,0 +1,5 @@
+-- What the crate's contracts cite.
+pub mod Audit
+pub mod Text
+pub mod Worlds
+pub mod Written

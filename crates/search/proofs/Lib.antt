@@ -1,0 +1,12 @@
+-- The crate's lemmas.
+pub mod Patterns
+pub mod Witnesses
+pub mod Order
+pub mod One
+pub mod Right
+pub mod Deciding
+pub mod Steps
+pub mod Sorting
+pub mod Examples
+pub mod Listing
+mod Bits

@@ -1,0 +1,5 @@
+-- What the crate's contracts cite.
+pub mod Examples
+pub mod Lacking
+pub mod Moves
+pub mod Search
