@@ -1,5 +1,6 @@
 -- The crate's lemmas.
 pub mod BarLaw
-mod Deciding
+mod Judged
+mod Leaving
 pub mod Least
 pub mod OneOrOther

@@ -1,3 +1,4 @@
 -- What the crate's contracts cite.
-pub mod Bars
+pub mod Barring
+pub mod Finding
 pub mod Least

@@ -16,3 +16,8 @@ mod Tests
 mod Rounds
 mod Trails
 mod Searches
+pub mod Once
+mod Back
+pub mod Bounds
+mod Running
+mod Refusals

@@ -353,3 +353,7 @@ going-long s h c y n i j q₀ q round going = (
   going .scan .long ∙ round .columns .long,
   going .scan .long-parents ∙ round .columns .long-parents,
 )
+
+-- whether a way is left, by what the search says
+pub left-by : (s : Survey) (h : Pattern) (c : ℕ) (y : ℕ → ℕ) (q : Search) (b : Bool) → Searched s h c y q → q .found ≡ b → way-left s h c y ≡ b
+left-by s h c y q b searched e = sym (searched .found) ∙ e

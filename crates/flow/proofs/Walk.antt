@@ -31,7 +31,7 @@ at-cell-add d a b i = omega (arith, pick-eqb i d (a + b) 0, pick-eqb i d a 0, pi
 
 module _ (s : Survey) (h : Pattern) (c : ℕ) (y : ℕ → ℕ) where
   -- the falling cell's row is the row that the way comes from
-  falling-row : (n k : ℕ) → On-way s h c y n k → falling s h c y n k / s .columns ≡ parent-row s h c y n k
+  pub falling-row : (n k : ℕ) → On-way s h c y n k → falling s h c y n k / s .columns ≡ parent-row s h c y n k
   unfolding falling
   falling-row n k on = row-of-place (parent-row s h c y n k) k (s .columns) _ (on .inside) refl
 
@@ -45,18 +45,18 @@ module _ (s : Survey) (h : Pattern) (c : ℕ) (y : ℕ → ℕ) where
   not-falling-still n k d on f same = both-ways _ f (rw same (fall-part s h c _ y (falling-falls s h c y n k on)))
 
   -- a row that is not reached later was not reached before
-  row-before : (n r : ℕ) → row-reached s h c y (suc n) r ≡ false → row-reached s h c y n r ≡ false
+  pub row-before : (n r : ℕ) → row-reached s h c y (suc n) r ≡ false → row-reached s h c y n r ≡ false
   row-before n r f = false-since _ (λ t. both-ways _ f (row-kept s h c y n r t))
 
   module _ (x : ℕ) where
     -- the first fall of a walk, at the falling cell
-    first-fall : (n k : ℕ) (falls : List ℕ) (d : ℕ) → length falls ≡ s .rows * s .columns → On-way s h c y n k →
+    pub first-fall : (n k : ℕ) (falls : List ℕ) (d : ℕ) → length falls ≡ s .rows * s .columns → On-way s h c y n k →
         getD (add-at falls (falling s h c y n k) x) d 0 ≡ getD falls d 0 + at-cell (falling s h c y n k) x d
     first-fall n k falls d long on =
         getD-add-at falls (falling s h c y n k) x d (omega (arith, falling-inside s h c y n k on))
 
     -- the first rise of a walk, at the rising cell
-    first-rise : (n k : ℕ) (rises : List ℕ) (d : ℕ) → length rises ≡ s .rows * s .columns → On-way s h c y (suc n) k →
+    pub first-rise : (n k : ℕ) (rises : List ℕ) (d : ℕ) → length rises ≡ s .rows * s .columns → On-way s h c y (suc n) k →
         getD (add-at rises (rising s h c y n k) x) d 0 ≡ getD rises d 0 + at-cell (rising s h c y n k) x d
     first-rise n k rises d long on =
         getD-add-at rises (rising s h c y n k) x d (omega (arith, rising-inside s h c y n k on))

@@ -3,3 +3,4 @@ mod lent;
 mod part;
 pub mod raising;
 mod search;
+mod way;

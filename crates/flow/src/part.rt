@@ -1,11 +1,21 @@
 // Which cells take part where a cell is raised, and which of them can fall.
 ghost use mathlib.Core.Path.{_≡_};
-ghost use Prim.Native.Nat.{ℕ, _<_};
+ghost use Prim.Native.Nat.{ℕ, _+_, _*_, _<_};
 ghost use lib.ListN.{length};
 ghost use Rattle.survey.specs.Model.{model, size};
 ghost use Rattle.flow.specs.Afoot.{Afoot};
 ghost use Rattle.flow.specs.Ways.{takes-part, spare, can-fall, standing};
 use sensitivity::table::Table;
+
+// The number of the cell in a row and a column.
+pub(crate) fn place(table: &Table, row: usize, column: usize) -> usize
+    requires row { ⌜ row < model (now table .survey) .rows ⌝ }
+    requires column { ⌜ column < model (now table .survey) .columns ⌝ }
+    ensures value { λ r. ⌜ r ≡ row * model (now (table .entry) .survey) .columns + column ⌝ }
+    ensures inside { λ r. ⌜ r < size (model (now (table .entry) .survey)) ⌝ }
+{
+    row * table.survey().columns() + column
+}
 
 // Whether a cell takes part: a hidden one of two workshops or more, other than the raised one. Most cells are printed,
 // so the pattern is asked first.

@@ -1,13 +1,13 @@
 // The search for a way, round by round: from the raised cell's row to the columns in which a cell can fall, from these to
 // the rows in which a cell can rise, and so on until the raised cell's column is reached.
 ghost use mathlib.Core.Path.{_≡_};
-ghost use mathlib.Core.Bool.{false};
+ghost use mathlib.Core.Bool.{false, not};
 ghost use Prim.Native.Nat.{ℕ, _+_, _*_, _≤_, _<_};
 ghost use lib.Dec.{eqb};
 ghost use lib.ListN.{length, getD};
 ghost use Rattle.survey.specs.Model.{model, size};
 ghost use Rattle.flow.specs.Afoot.{Afoot};
-ghost use Rattle.flow.specs.Searching.{Spread, Searched};
+ghost use Rattle.flow.specs.Searching.{never, Spread, Searched};
 ghost use Rattle.flow.specs.Ways.{any-below, takes-part, standing};
 use crate::part::can_fall;
 use crate::part::takes_part;
@@ -121,4 +121,16 @@ pub(crate) fn find_way(
         round += 1;
     }
     search
+}
+
+// What is reached.
+pub(crate) fn marks(rounds: &[usize; 40]) -> [bool; 40]
+    ensures long { λ r. ⌜ length r ≡ 40 ⌝ }
+    ensures each { λ r. ⌜ ((i : ℕ) → i < 40 → getD r i false ≡ not (eqb (getD (now (rounds .entry)) i 0) never)) ⌝ }
+{
+    let mut marks = [false; 40];
+    for i in 0..40 {
+        marks[i] = rounds[i] != NEVER;
+    }
+    marks
 }

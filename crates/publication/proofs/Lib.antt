@@ -1,4 +1,6 @@
 -- Lemmas of the crate.
+pub mod Example
+pub mod Lines
 pub mod OneAnswer
 pub mod Same
 pub mod Sums

@@ -60,7 +60,7 @@ numbered marks zero = []
 numbered marks (suc n) = numbered marks n ++ marked (getD marks n false) n
 
 -- the line it prints, as "protected", "open 1 printed" or "open 1 rows 0 columns 2"
-unfoldable pub audit-line : Answer → List ℕ
+abbrev pub audit-line : Answer → List ℕ
 audit-line protected = codes "protected"
 audit-line (printed c) = codes "open " ++ (decimal c ++ codes " printed")
 audit-line (barred c rs ks) =

@@ -13,6 +13,7 @@ use Rattle.survey.specs.Page.{Survey, Pattern}
 use Rattle.survey.specs.declared.refusal.Lent.the-variants as lent
 use Rattle.survey.specs.declared.refusal.Refusal.{Refusal}
 use Rattle.survey.specs.declared.refusal.Refusal.the-variants.{Short, Memory}
+use Rattle.publication.specs.Audit.{Answer, audit-line}
 use Rattle.publication.specs.Text.{page-text}
 
 -- these bytes were added to a text, or there was no memory
@@ -24,3 +25,8 @@ Adds more before after (Err e) = e ≡ Memory
 abbrev pub Published : {Z : Type 0} → Survey → Pattern → Result (String Z) Refusal → Type 0
 Published s h (Ok text) = (size s ≤ length h) × (string-bytes text ≡ page-text s h)
 Published s h (Err e) = ((length h < size s) × (e ≡ Short lent.Pattern)) ⊎ ((size s ≤ length h) × (e ≡ Memory))
+
+-- the line that is printed of the auditor's answer, or there was no memory
+abbrev pub Told : {Z : Type 0} → Answer → Result (String Z) Refusal → Type 0
+Told a (Ok text) = string-bytes text ≡ audit-line a
+Told a (Err e) = e ≡ Memory

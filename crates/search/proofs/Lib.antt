@@ -10,3 +10,7 @@ pub mod Sorting
 pub mod Examples
 pub mod Listing
 mod Bits
+pub mod Blanking
+pub mod Printing
+pub mod Shown
+mod Outcomes

@@ -6,7 +6,7 @@ use mathlib.Core.List.{List, [], _∷_, _++_}
 use Prim.Native.Nat.{ℕ, zero, suc, _+_, _≤_, _<_}
 use native.Mathlib.Omega.{arith}
 use lib.Dec.{ltb, eqb}
-use lib.ListN.{length, getD, set, take, drop}
+use lib.ListN.{length, getD, set, take, drop, replicate}
 use Rattle.std.specs.shelf.Lists.{Has}
 use Rattle.std.proofs.shelf.Tests.{cases-eq, cases-lt, both-ways, or-left, or-right, or-cases, or-from, eq-eqb, ne-eqb, eqb-true, lt-ltb, ltb-true}
 use Rattle.std.proofs.shelf.Lists.{ext-getD, length-set, getD-set-same, getD-set-other, getD-past, take-more, take-take, take-append-drop}
@@ -150,3 +150,9 @@ pub blanked-first : (s : Survey) (h : Pattern) → length h ≡ size s → ((c :
 blanked-first s h size-is each = ext-getD false _ _ (size-is ∙ sym (length-blanked s [])) (λ c l.
     let m : c < size s = omega arith in
     each c m ∙ sym (blanked-none s c m))
+
+-- so many blanks in a row are all of them blank
+pub replicate-hidden : (n : ℕ) → replicate n true ≡ all-hidden n
+unfolding all-hidden
+replicate-hidden zero = refl
+replicate-hidden (suc n) = ap (λ (l : List Bool). true ∷ l) (replicate-hidden n)

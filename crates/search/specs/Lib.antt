@@ -2,4 +2,5 @@
 pub mod Examples
 pub mod Lacking
 pub mod Moves
+pub mod Outcomes
 pub mod Search

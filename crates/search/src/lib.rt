@@ -2,8 +2,12 @@ ghost use Rattle.search.specs.Search.{One-outcome, Searched-right, Searched-sa
 ghost use Rattle.search.specs.Examples.{Worked-examples};
 
 mod lacking;
+mod looking;
 mod moves;
 mod ranking;
+mod scratch;
+pub mod searching;
+mod trials;
 
 // A search has one outcome at most.
 pub fn search_has_one_outcome()

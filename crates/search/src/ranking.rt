@@ -1,7 +1,7 @@
 // The cells that lack nothing, in the order in which they are made blank.
-ghost use Prim.Native.Nat.{ℕ};
+ghost use Prim.Native.Nat.{ℕ, _≤_};
 ghost use mathlib.Core.List.{map};
-ghost use Rattle.std.specs.Of.Vec.{vec-items};
+ghost use Rattle.std.specs.Of.Vec.{vec-items, vec-len};
 ghost use Rattle.std.specs.Vec.{made};
 ghost use Rattle.survey.specs.Model.{model};
 ghost use Rattle.search.specs.Search.{In-order};
@@ -19,7 +19,7 @@ pub(crate) struct Ranked {
 
 // The cells that lack nothing, by their sums, equal ones by number.
 pub(crate) fn in_order(heap: Global, table: &Table) -> Result<Vec<Ranked>, AllocError>
-    ensures { λ r. ⌜ made r (λ v. In-order (model (now (table .entry) .survey)) (map (λ (p : Ranked). p .cell) (vec-items v))) ⌝ }
+    ensures { λ r. ⌜ made r (λ v. In-order (model (now (table .entry) .survey)) (map (λ (p : Ranked). p .cell) (vec-items v)) × (vec-len v ≤ 1600)) ⌝ }
 {
     let mut order = Vec::new(heap);
     for cell in 0..table.survey().cells() {
