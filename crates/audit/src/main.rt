@@ -1,38 +1,85 @@
-// Reads a survey and a pattern of blanks, and judges the pattern, once one can be judged.
-ghost use mathlib.Core.Path.{_≡_};
-ghost use mathlib.Core.Bool.{true};
-ghost use lib.Chars.{codes};
-ghost use Rattle.std.specs.Results.{Cases as ByOk};
-ghost use Rattle.std.specs.declared.option.Option.the-variants.{None};
-ghost use Rattle.command.specs.Limits.{serves, Turned-away};
-ghost use Rattle.command.specs.Parts.{survey-bytes};
-ghost use Rattle.survey.specs.Format.{decoded, verdict};
-use command::limits::admitted;
+// Reads a survey and a pattern of blanks, and tells whether the pattern protects, or the first cell that is open.
+ghost use Prim.Native.Nat.{_≤_};
+ghost use lib.ListN.{length};
+ghost use Rattle.survey.specs.Model.{model, size};
+ghost use Rattle.audit.specs.Judges.{Judges, Blanked, Answers};
+use command::limits::served;
 use command::parts::survey_part;
 use command::talk::Stop;
 use command::talk::Usage;
 use command::talk::asked;
 use command::talk::told;
+use pattern::blanks::from_bytes;
+use publication::audit::audit;
+use publication::audit::audit_line;
+use publication::audited::Audit;
+use sensitivity::table::Table;
 use std::alloc::Global;
+use survey::checked::Survey;
+use survey::reading::read;
 use survey::refusal::Refusal;
+use survey::refusal::RefusalFromAlloc;
 
 const USAGE: Usage = Usage {
     name: "audit",
     about: "Reads a survey and the pattern of blanks after it, and judges the pattern.",
 };
 
-// What is told of a survey that is taken. The pattern after it is not looked at yet.
-fn answer_to(heap: Global, bytes: &[u8], full: bool) -> Result<&'static str, Refusal>
-    ensures { λ r. ⌜ ByOk r (λ line. (verdict (survey-bytes (now (bytes .entry))) ≡ None) × ((serves full (decoded (survey-bytes (now (bytes .entry)))) ≡ true) × (now line ≡ codes "no pattern can be judged yet"))) (λ e. Turned-away (survey-bytes (now (bytes .entry))) full e) ⌝ }
+// The pattern that the bytes say, in memory of its own.
+fn pattern_of(heap: Global, survey: &Survey, bytes: &[u8]) -> Result<Vec<bool>, Refusal>
+    ensures { λ r. ⌜ Blanked (model (now (survey .entry))) (now (bytes .entry)) r ⌝ }
 {
-    let (survey, _pattern) = bytes.split_at(survey_part(bytes));
-    admitted(heap, survey, full)?;
-    Ok("no pattern can be judged yet")
+    let mut pattern = vec![in heap; false; survey.cells()]?;
+    match from_bytes(survey, bytes, &mut pattern) {
+        Ok(()) => Ok(pattern),
+        Err(refusal) => Err(refusal),
+    }
+}
+
+// The audit's answer of a survey and a pattern that are taken.
+fn judged(heap: Global, survey: Survey, pattern: &[bool]) -> Result<Audit, Refusal>
+    requires { ⌜ size (model survey) ≤ length (now pattern) ⌝ }
+    ensures { λ r. ⌜ Answers (model survey) (now (pattern .entry)) r ⌝ }
+{
+    match Table::new(heap, survey) {
+        Ok(table) => audit(heap, &table, pattern),
+        Err(refusal) => Err(refusal),
+    }
+}
+
+// The audit's answer, or the first refusal.
+fn audit_of(heap: Global, bytes: &[u8], full: bool) -> Result<Audit, Refusal>
+    ensures { λ r. ⌜ Judges (now (bytes .entry)) full r ⌝ }
+{
+    let (head, tail) = bytes.split_at(survey_part(bytes));
+    let survey = match read(heap, head) {
+        Ok(survey) => survey,
+        Err(refusal) => return Err(refusal),
+    };
+    let pattern = match pattern_of(heap, &survey, tail) {
+        Ok(pattern) => pattern,
+        Err(refusal) => return Err(refusal),
+    };
+    match served(&survey, full) {
+        Ok(()) => judged(heap, survey, &pattern),
+        Err(refusal) => Err(refusal),
+    }
 }
 
 fn main(rt: LibcRuntime) -> Result<(), Stop> {
     let Some(task) = asked(&rt, USAGE)? else {
         return Ok(());
     };
-    told(&rt, answer_to(rt.alloc(), task.bytes.as_slice(), task.full))
+    let heap = rt.alloc();
+    match audit_of(heap, task.bytes.as_slice(), task.full) {
+        Ok(answer) => {
+            told(&rt, audit_line(heap, &answer), "\n")?;
+            match answer {
+                Audit::Protected => Ok(()),
+                Audit::Printed(_) => Err(Stop::Open),
+                Audit::Barred(_, _) => Err(Stop::Open),
+            }
+        }
+        Err(refusal) => told(&rt, Err::<String, Refusal>(refusal), "\n"),
+    }
 }

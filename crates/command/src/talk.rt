@@ -25,6 +25,8 @@ pub enum Stop {
     Output,
     // the survey or the pattern is refused
     Refused(Refusal),
+    // the pattern leaves a cell open
+    Open,
 }
 
 // How a program is called: its name, and what it does in one line.
@@ -131,12 +133,17 @@ pub fn asked(rt: &LibcRuntime, usage: Usage) -> Result<Option<Task>, Stop>
     }
 }
 
-// Prints the answer, or the line of the refusal: both are what the program was asked for, so both go to standard output.
-pub fn told<T: Display + Drop>(rt: &LibcRuntime, answer: Result<T, Refusal>) -> Result<(), Stop>
+// Prints the answer with what ends it, or the line of the refusal: both are what the program was asked for, so both go to
+// standard output.
+pub fn told<T: Display + Drop>(
+    rt: &LibcRuntime,
+    answer: Result<T, Refusal>,
+    end: &str,
+) -> Result<(), Stop>
     ensures { λ r. ⌜ Tells answer r ⌝ }
 {
     match answer {
-        Ok(text) => match println!(rt, "{text}") {
+        Ok(text) => match print!(rt, "{text}{end}") {
             Ok(()) => Ok(()),
             Err(_) => Err(Stop::Output),
         },

@@ -3,23 +3,23 @@ use mathlib.Core.Path.{_≡_, refl, sym, ap, subst, _∙_}
 use mathlib.Core.Logic.{inl, inr}
 use mathlib.Core.Bool.{Bool, true, false, not, _&&_}
 use mathlib.Core.List.{List}
-use Prim.Native.Nat.{ℕ, zero, suc, _+_, _-_, _*_, _/_, _%_, _≤_, _<_}
+use Prim.Native.Nat.{ℕ, zero, suc, _+_, _-_, _*_, _≤_, _<_}
 use native.Mathlib.Omega.{arith}
 use lib.ListN.{length, getD, replicate}
 use Rattle.std.proofs.shelf.Counted.{length-map-counting}
 use Rattle.std.proofs.shelf.Lists.{getD-past}
 use Rattle.std.proofs.shelf.Tests.{both-ways, cases-lt, cases-bool}
-use Rattle.survey.specs.Survey.{pick, largest, many}
-use Rattle.survey.specs.Page.{Survey, Pattern, Sound, hidden, true-sum, need, Witness}
+use Rattle.survey.specs.Survey.{pick}
+use Rattle.survey.specs.Page.{Survey, Pattern, hidden, true-sum, need, Witness}
 use Rattle.survey.specs.Model.{size}
-use Rattle.survey.specs.Promise.{shown, barred, Audits, Bar, may-give, leaves}
+use Rattle.survey.specs.Promise.{shown, Audits, Bar, may-give, leaves}
 use Rattle.survey.proofs.Cells.{largest-le-sum, pick-eqb}
 use Rattle.flow.specs.Closed.{Closed}
-use Rattle.flow.specs.Raising.{Raises, Marked}
-use Rattle.flow.specs.Ways.{Run, marks, standing, raised-sums, way-left, row-reached, column-reached, reached-rows, reached-columns}
+use Rattle.flow.specs.Raising.{Raises}
+use Rattle.flow.specs.Ways.{marks, standing, raised-sums, way-left, row-reached, column-reached, reached-rows, reached-columns}
 use Rattle.flow.specs.Ways.Run.{nothing-lacks}
 use Rattle.flow.specs.declared.raising.Flow.{Flow}
-use Rattle.flow.proofs.Tables.{over, over-cong}
+use Rattle.flow.proofs.Tables.{over-cong}
 use Rattle.flow.proofs.Partial.{Partial, partial-start, partial-witness}
 use Rattle.flow.proofs.Runs.{run-one, run-keeps, run-end}
 use Rattle.cut.specs.Least.{Least-cut, Within}

@@ -1,8 +1,8 @@
 -- No amount comes near the end of its type; a cell that lacks something lies in the table.
-use mathlib.Core.Path.{_≡_, refl, sym, ap, _∙_}
+use mathlib.Core.Path.{_≡_, refl, ap}
 use mathlib.Core.Logic.{inl, inr}
-use mathlib.Core.List.{List, [], _∷_, map}
-use Prim.Native.Nat.{ℕ, zero, suc, _+_, _*_, _/_, _≤_, _<_, _^_}
+use mathlib.Core.List.{List, [], _∷_}
+use Prim.Native.Nat.{ℕ, suc, _*_, _≤_, _<_}
 use native.Mathlib.Nat.{mul-add, mul-one}
 use native.Mathlib.Omega.{arith}
 use lib.ListN.{length, getD}
@@ -10,12 +10,12 @@ use Rattle.std.proofs.shelf.Bits.{mul-le}
 use Rattle.std.proofs.shelf.Lists.{length-map, getD-map}
 use Rattle.std.proofs.shelf.Tests.{cases-lt}
 use Rattle.std.specs.Of.Vec.{vec-items}
-use Rattle.survey.specs.Survey.{sum-at, largest, second, open-above, lacks}
+use Rattle.survey.specs.Survey.{sum-at, largest, lacks}
 use Rattle.survey.specs.Page.{true-sum, need}
 use Rattle.survey.specs.Model.{model, size}
 use Rattle.survey.specs.declared.checked.Survey.{Survey}
 use Rattle.survey.specs.declared.workshop.Workshop.{Workshop}
-use Rattle.survey.proofs.Cells.{no-sum, sum-without, cell-step, largest-le-sum, open-above-le}
+use Rattle.survey.proofs.Cells.{no-sum, sum-without, cell-step, largest-le-sum}
 use Rattle.survey.proofs.Facts.{model-sound, few-items, item-in-range}
 use Rattle.sensitivity.proofs.Empty.{profile-past}
 use Rattle.sensitivity.specs.declared.profile.Profile.{Profile}

@@ -1,6 +1,6 @@
 -- A walk adds to each cell once at most.
 use mathlib.Core.Path.{_≡_, refl, _∙_}
-use mathlib.Core.Logic.{_≢_, inl, inr}
+use mathlib.Core.Logic.{inl, inr}
 use mathlib.Core.Bool.{true, false}
 use mathlib.Core.List.{List}
 use Prim.Native.Nat.{ℕ, zero, suc, _+_, _*_, _/_, _%_, _≤_, _<_}
@@ -9,7 +9,7 @@ use lib.ListN.{length, getD}
 use Rattle.std.proofs.shelf.Tests.{both-ways, cases-eq}
 use Rattle.survey.specs.Page.{Survey, Pattern}
 use Rattle.flow.specs.Ways.{row-reached, parent-row, falling, column-before, rising, room, add-at, fallen, risen, way-left, way-level, carried, next-falls, next-rises}
-use Rattle.flow.proofs.Tables.{at-cell, at-cell-here, at-cell-other, row-of-place}
+use Rattle.flow.proofs.Tables.{at-cell-here, at-cell-other, row-of-place}
 use Rattle.flow.proofs.Moves.{length-add-at}
 use Rattle.flow.proofs.Reach.{On-way, parent-reached, parent-fresh, on-before, way-on}
 use Rattle.flow.proofs.Walk.{first-fall, first-rise, row-before, fallen-at, risen-le}

@@ -1,18 +1,18 @@
 -- What a search knows of one side, the rows or the columns, before a round, and how a round adds to it.
 use mathlib.Core.Path.{_≡_, refl, sym, ap, subst, _∙_}
-use mathlib.Core.Logic.{_≢_, _⊎_, inl, inr}
+use mathlib.Core.Logic.{_⊎_, inl, inr}
 use mathlib.Core.Bool.{Bool, true, false, _&&_}
 use mathlib.Core.List.{List}
-use Prim.Native.Nat.{ℕ, zero, suc, _+_, _*_, _/_, _%_, _≤_, _<_}
+use Prim.Native.Nat.{ℕ, zero, suc, _≤_, _<_}
 use native.Mathlib.Omega.{arith}
-use lib.Dec.{leb, eqb}
+use lib.Dec.{leb}
 use lib.ListN.{length, getD}
-use Rattle.std.proofs.shelf.Tests.{both-ways, cases-eq, cases-bool, cases-lt, and-parts, le-leb, lt-leb, leb-true, leb-false, eq-eqb, ne-eqb}
+use Rattle.std.proofs.shelf.Tests.{both-ways, cases-eq, cases-bool, le-leb, lt-leb, leb-true, leb-false, eq-eqb, ne-eqb}
 use Rattle.survey.specs.Page.{Survey, Pattern}
 use Rattle.survey.proofs.Cells.{pick-true, pick-false}
-use Rattle.flow.specs.Ways.{any-below, least, takes-part, can-fall, row-reached, column-reached, next-rows, next-columns, parent-row, parent-column}
+use Rattle.flow.specs.Ways.{any-below, least, row-reached, column-reached, next-rows, next-columns, parent-row, parent-column}
 use Rattle.flow.specs.Searching.{never, Spread}
-use Rattle.flow.proofs.Below.{false-since, any-below-cong, least-cong}
+use Rattle.flow.proofs.Below.{any-below-cong, least-cong}
 use Rattle.flow.proofs.Reach.{row-kept, row-from, column-from, column-kept}
 use Rattle.flow.proofs.Tests.{can-rise-in, can-fall-in, in-round}
 

@@ -2,20 +2,19 @@
 use mathlib.Core.Path.{_≡_, refl, sym, ap, subst, _∙_}
 use mathlib.Core.Bool.{Bool, true, false, not}
 use mathlib.Core.List.{List}
-use Prim.Native.Nat.{ℕ, zero, suc, _+_, _-_, _*_, _≤_, _<_, _^_}
+use Prim.Native.Nat.{ℕ, zero, suc, _+_, _-_, _≤_, _<_}
 use native.Mathlib.Omega.{arith}
 use lib.Dec.{eqb}
 use lib.ListN.{length, getD, replicate}
 use Rattle.std.proofs.shelf.Lists.{length-replicate, getD-replicate}
 use Rattle.survey.specs.Page.{Survey, Pattern, true-sum, need}
 use Rattle.survey.specs.Model.{size}
-use Rattle.survey.proofs.Cells.{largest-le-sum}
 use Rattle.flow.specs.Afoot.{Afoot}
 use Rattle.flow.specs.Raising.{Marked}
 use Rattle.flow.specs.Searching.{never, Searched}
 use Rattle.flow.specs.declared.raising.Flow.{Flow}
 use Rattle.flow.specs.declared.search.Search.{Search}
-use Rattle.flow.specs.Ways.{Run, takes-part, standing, way-left, carried, next-falls, next-rises}
+use Rattle.flow.specs.Ways.{Run, standing, way-left, carried, next-falls, next-rises}
 use Rattle.flow.specs.Ways.Run.{nothing-lacks, no-way, one-way}
 use Rattle.flow.proofs.Partial.{Partial, partial-start, partial-next, standing-sum}
 use Rattle.flow.proofs.Once.{next-falls-le, next-rises-le}

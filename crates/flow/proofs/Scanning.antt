@@ -9,9 +9,8 @@ use lib.Dec.{eqb}
 use lib.ListN.{length, getD, set}
 use Rattle.std.proofs.shelf.Lists.{length-set, getD-set-same, getD-set-other}
 use Rattle.std.proofs.shelf.Tests.{both-ways, cases-eq, cases-bool, and-parts, and-from, and-left, and-right, eq-eqb}
-use Rattle.survey.specs.Survey.{pick}
 use Rattle.survey.proofs.Cells.{pick-true, pick-false}
-use Rattle.flow.specs.Ways.{any-below, least}
+use Rattle.flow.specs.Ways.{any-below}
 use Rattle.flow.specs.Searching.{never, Spread}
 use Rattle.flow.proofs.Below.{any-below-from, any-below-has, false-since, Least, least-one}
 

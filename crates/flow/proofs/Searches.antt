@@ -1,7 +1,7 @@
 -- A search from round to round, and what it leaves.
 use mathlib.Core.Path.{_≡_, refl, sym, ap, subst, _∙_}
 use mathlib.Core.Logic.{_≢_, _⊎_, inl, inr}
-use mathlib.Core.Bool.{Bool, true, false, not, _&&_}
+use mathlib.Core.Bool.{Bool, true, false, not}
 use mathlib.Core.List.{List}
 use Prim.Native.Nat.{ℕ, zero, suc, _+_, _*_, _/_, _%_, _≤_, _<_}
 use native.Mathlib.Numerals.{add-one}
@@ -10,19 +10,19 @@ use lib.Dec.{leb, eqb}
 use lib.ListN.{length, getD, set, replicate}
 use Rattle.std.proofs.shelf.Lists.{length-set, length-replicate, getD-replicate, getD-set-same, getD-set-other, getD-past}
 use Rattle.std.proofs.shelf.Counted.{length-map-counting}
-use Rattle.std.proofs.shelf.Tests.{both-ways, cases-eq, cases-lt, cases-bool, eq-eqb, ne-eqb, eqb-true, leb-true, le-leb, lt-leb, not-from-true, not-from-false}
+use Rattle.std.proofs.shelf.Tests.{both-ways, cases-eq, cases-lt, eq-eqb, ne-eqb, eqb-true, leb-true, le-leb, lt-leb, not-from-true, not-from-false}
 use Rattle.std.proofs.shelf.Bits.{div-below, mod-below}
 use Rattle.survey.specs.Page.{Survey, Pattern}
-use Rattle.flow.specs.Ways.{any-below, least, marks, row-reached, column-reached, way-left, way-level, parent-row, reached-rows, reached-columns}
+use Rattle.flow.specs.Ways.{marks, row-reached, column-reached, way-left, way-level, parent-row, reached-rows, reached-columns}
 use Rattle.flow.specs.Searching.{never, Spread, Trail, Searched}
 use Rattle.flow.specs.declared.search.Search.{Search}
 use Rattle.flow.proofs.Below.{any-below-from, any-below-has, any-below-none, false-since, Least, least-one, least-cong}
-use Rattle.flow.proofs.Reach.{On-way, column-from, own-row}
+use Rattle.flow.proofs.Reach.{On-way, column-from}
 use Rattle.flow.proofs.Settled.{Settled, settled, rows-within, columns-within, unsettled-below}
 use Rattle.flow.proofs.Stuck.{row-mark, column-mark}
 use Rattle.flow.proofs.Tests.{can-rise-in, can-fall-in, in-round}
 use Rattle.flow.proofs.Scanning.{Scan, scan-start, scan-idle, scan-next, scan-skip, scan-mark, scan-end, some-reached}
-use Rattle.flow.proofs.Rounds.{Side, Rows, Columns, Row-from, Column-from, side-free, same-columns, columns-next, rows-next}
+use Rattle.flow.proofs.Rounds.{Rows, Columns, Row-from, Column-from, side-free, same-columns, columns-next, rows-next}
 use Rattle.flow.proofs.Trails.{trail-here}
 
 -- what is known of a search before round n

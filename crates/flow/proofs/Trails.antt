@@ -1,16 +1,16 @@
 -- The parents that a search leaves lead back along the way.
-use mathlib.Core.Path.{_≡_, refl, sym, subst, _∙_}
+use mathlib.Core.Path.{_≡_, refl, subst, _∙_}
 use mathlib.Core.Logic.{_≢_}
 use mathlib.Core.Bool.{false}
 use mathlib.Core.List.{List}
-use Prim.Native.Nat.{ℕ, zero, suc, _≤_, _<_}
+use Prim.Native.Nat.{ℕ, zero, suc, _<_}
 use native.Mathlib.Omega.{arith}
 use lib.ListN.{getD}
 use Rattle.survey.specs.Page.{Survey, Pattern}
-use Rattle.flow.specs.Ways.{row-reached, column-reached, parent-row, parent-column, column-before}
+use Rattle.flow.specs.Ways.{row-reached, column-reached, parent-row, column-before}
 use Rattle.flow.specs.Searching.{never, Trail}
 use Rattle.flow.proofs.Reach.{On-way, parent-inside, parent-reached, parent-fresh, on-before}
-use Rattle.flow.proofs.Rounds.{Side, Rows, Columns, Row-from, Column-from, side-exact}
+use Rattle.flow.proofs.Rounds.{Rows, Columns, Row-from, Column-from, side-exact}
 
 module _ (s : Survey) (h : Pattern) (c : ℕ) (y : ℕ → ℕ) (n : ℕ) (rr rp cr cp parents : List ℕ) (soon : n < never)
     (rows : Rows s h c y (suc n) rr rp) (columns : Columns s h c y n cr cp)

@@ -5,3 +5,5 @@ pub mod OneAnswer
 pub mod Same
 pub mod Sums
 pub mod Steps
+mod Letting
+pub mod Auditing

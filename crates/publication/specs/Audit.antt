@@ -12,12 +12,20 @@ use Rattle.survey.specs.Page.{Survey, Pattern, Sound, hidden, need, Witness, Pr
 use Rattle.survey.specs.Promise.{Bar}
 use Rattle.survey.specs.Survey.{pick}
 use Rattle.cut.specs.Least.{Least-cut}
+use Rattle.publication.specs.declared.audited.Audit as program
+use Rattle.publication.specs.declared.audited.Audit.the-variants as given
 
 -- the pattern protects; or this cell is open and printed; or it is open and blank, with the rows and columns that bar it
 pub data Answer : Type 0 where
   protected : Answer
   printed : ℕ → Answer
   barred : ℕ → List Bool → List Bool → Answer
+
+-- the answer that the program's value stands for
+abbrev pub answer : program.Audit → Answer
+answer given.Protected = protected
+answer (given.Printed c) = printed c
+answer (given.Barred c cut) = barred c (cut .rows) (cut .columns)
 
 -- cell c is the first that lacks something and has no witness
 pub record First-open (s : Survey) (h : Pattern) (c : ℕ) : Type 0 where

@@ -3,6 +3,8 @@ ghost use Rattle.publication.specs.Example.{Example};
 ghost use Rattle.publication.specs.Worlds.{Same-text};
 
 pub mod audit;
+pub mod audited;
+pub mod publishing;
 pub mod text;
 
 // Turnovers that keep the sums and the printed cells give the same text, and so a safe page's text is safe.

@@ -1,7 +1,5 @@
-use mathlib.Core.Path.{_≡_}
 use native.Mathlib.Omega.{arith}
-use Prim.Native.Nat.{ℕ, _+_, _-_, _*_, _<_}
-use lib.ListN.{getD}
+use Prim.Native.Nat.{_<_}
 use Rattle.survey.specs.Model.{model, size}
 use Rattle.survey.proofs.Cells.{pick-same, pick-other}
 use Rattle.flow.specs.Ways.{raised-sums, standing}

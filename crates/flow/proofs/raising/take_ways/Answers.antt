@@ -1,6 +1,4 @@
-use mathlib.Core.Path.{_≡_, refl, sym, subst, _∙_}
-use mathlib.Core.Bool.{true}
-use Prim.Native.Nat.{ℕ, _≤_, _<_}
+use mathlib.Core.Path.{_≡_, refl, sym, subst}
 use native.Mathlib.Omega.{arith}
 use Rattle.survey.specs.Model.{model}
 use Rattle.flow.proofs.Bounds.{sum-small, need-small, need-inside}

@@ -1,14 +1,13 @@
 use mathlib.Core.Path.{_≡_, refl, sym, ap, _∙_}
 use mathlib.Core.Logic.{inl, inr}
 use mathlib.Core.List.{List}
-use Prim.Native.Nat.{ℕ, _+_, _*_, _/_, _%_, _≤_, _<_}
+use Prim.Native.Nat.{ℕ, _+_, _/_, _%_}
 use native.Mathlib.Omega.{arith}
-use lib.ListN.{length, getD, set, replicate}
+use lib.ListN.{getD, set, replicate}
 use Rattle.std.proofs.shelf.Bits.{mul-add-lt, div-below}
-use Rattle.survey.specs.Model.{model}
 use Rattle.flow.proofs.Tests.{fall-told}
 use Rattle.flow.specs.declared.search.Search.{Search}
-use Rattle.flow.proofs.Searches.{Round, Going, reaches, round-first, going-start, going-idle, going-next, going-skip, going-mark, going-as, going-long, none-yet, round-next, no-way-found, way-found}
+use Rattle.flow.proofs.Searches.{Round, Going, round-first, going-start, going-idle, going-next, going-skip, going-mark, going-as, going-long, none-yet, round-next, no-way-found, way-found}
 use Rattle.flow.proofs.search.find_way.Needs as need
 use Rattle.flow.proofs.search.find_way.Needs.{then-search-k-eq-NEVER·then-can-fall·else-k-cell, else-search-k-eq-NEVER, else-search-k-eq-NEVER·by·then-search-k-eq-NEVER·else-can-fall, else-search-k-eq-NEVER·by·else-search-k-eq-NEVER}
 use Rattle.flow.proofs.search.find_way.Needs.{then-search-r·else-loop-k-test, else-search-r}

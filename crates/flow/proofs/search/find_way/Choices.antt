@@ -1,7 +1,6 @@
 -- The search before a round, and in the middle of one.
 use mathlib.Core.Path.{_≡_}
-use mathlib.Core.List.{List}
-use Prim.Native.Nat.{ℕ, _-_, _<_}
+use Prim.Native.Nat.{_-_}
 use lib.ListN.{length}
 use Rattle.survey.specs.Model.{model}
 use Rattle.flow.specs.Ways.{standing}

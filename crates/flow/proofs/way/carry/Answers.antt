@@ -1,6 +1,5 @@
 use mathlib.Core.Path.{_≡_, sym, ap, _∙_}
-use mathlib.Core.Bool.{true}
-use Prim.Native.Nat.{ℕ, _%_, _≤_, _<_}
+use Prim.Native.Nat.{ℕ, _%_}
 use native.Mathlib.Omega.{arith}
 use Rattle.flow.proofs.Back.{stands-first, carries-first, carries-next, all-fallen, all-risen, column-next, fall-small, rise-small}
 use Rattle.flow.proofs.way.carry.Needs as need
