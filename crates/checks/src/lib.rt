@@ -2,3 +2,5 @@
 // they test, since a crate with tests is proved twice.
 #[cfg(test)]
 mod tests;
+#[cfg(test)]
+mod worked;

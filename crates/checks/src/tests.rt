@@ -24,7 +24,7 @@ use survey::refusal::SideDebug;
 use survey::refusal::SidePartialEq;
 
 // The bytes of a survey.
-fn bytes_of(
+pub(crate) fn bytes_of(
     heap: Global,
     rows: u8,
     columns: u8,
@@ -143,7 +143,7 @@ fn lines(rt: LibcRuntime) -> Result<(), Fail> {
 }
 
 // The turnovers of a table of three rows and three columns.
-const EXAMPLE: [(u16, u32); 30] = [
+pub(crate) const EXAMPLE: [(u16, u32); 30] = [
     (0, 40),
     (0, 30),
     (0, 20),
