@@ -70,6 +70,31 @@ def make_case(rng, large):
     return mode, large or rng.random() < 0.5, data
 
 
+def edge_cases():
+    """surveys at the edges: equal sums, nothing but 0, one row, column or cell, lone workshops, all in one cell, no byte"""
+    full = 1600
+    surveys = [
+        survey_bytes(40, 40, 15, [(d, 10) for d in range(full) for _ in range(12)]),
+        survey_bytes(40, 40, 15, [(d, 10) for d in range(full) for _ in range(2 if d % 7 else 4)]),
+        survey_bytes(40, 40, 15, [(d, 10 if d % 41 else 90) for d in range(full) for _ in range(5)]),
+        survey_bytes(40, 40, 15, [(d, 0) for d in range(full) for _ in range(3)]),
+        survey_bytes(1, 40, 15, [(d, 10 * d + i) for d in range(40) for i in range(6)]),
+        survey_bytes(40, 1, 15, [(d, 10 * d + i) for d in range(40) for i in range(6)]),
+        survey_bytes(1, 1, 15, [(0, 100)]),
+        survey_bytes(1, 1, 15, [(0, 100), (0, 90), (0, 50)]),
+        survey_bytes(1, 1, 15, []),
+        survey_bytes(40, 40, 15, [(d, d + 1) for d in range(full)]),
+        survey_bytes(40, 40, 100, [(777, 1_000_000_000)] * 20000),
+        survey_bytes(2, 2, 100, [(d, 1_000_000_000) for d in range(4) for _ in range(5000)]),
+        b"",
+    ]
+    cases = []
+    for data in surveys:
+        cells = data[0] * data[1] if data else 0
+        cases += [(PAGE, True, data), (PAGE, False, data), (AUDIT, True, data + bytes([1]) * cells), (AUDIT, True, data + bytes(cells))]
+    return cases
+
+
 def reference(binary, cases):
     feed = b"".join(struct.pack("<BBI", m, f, len(d)) + d for m, f, d in cases)
     out = subprocess.run([binary, "stream"], input=feed, stdout=subprocess.PIPE, check=True).stdout
@@ -99,7 +124,7 @@ def main():
     with tempfile.TemporaryDirectory() as folder:
         binary = folder + "/reference"
         subprocess.run(["g++", "-O2", "-o", binary, str(ROOT / "tests" / "reference.cpp")], check=True)
-        cases = [make_case(rng, False) for _ in range(args.inputs)] + [make_case(rng, True) for _ in range(args.large)]
+        cases = edge_cases() + [make_case(rng, False) for _ in range(args.inputs)] + [make_case(rng, True) for _ in range(args.large)]
         wanted = reference(binary, cases)
         with concurrent.futures.ThreadPoolExecutor(4) as pool:
             for i, (case, want, got) in enumerate(zip(cases, wanted, pool.map(ours, cases))):
