@@ -233,3 +233,171 @@ fn cuts(rt: LibcRuntime) -> Result<(), Fail> {
         Some(Refusal::Short(Lent::Pattern)),
     )
 }
+
+// Makes each cell blank that has a workshop.
+fn blank_occupied(workshops: &[(u16, u32)], pattern: &mut [bool])
+    ensures { λ _. ⌜ length (now (pattern .exit)) ≡ length (now (pattern .entry)) ⌝ }
+{
+    for (cell, _) in workshops.iter() {
+        if (*cell as usize) < pattern.len() {
+            pattern[*cell as usize] = true;
+        }
+    }
+}
+
+// A way over three cells that fall.
+#[test]
+fn three_fall(rt: LibcRuntime) -> Result<(), Fail> {
+    let list = [
+        (0, 100),
+        (1, 20),
+        (1, 20),
+        (4, 20),
+        (4, 20),
+        (5, 20),
+        (5, 20),
+        (8, 20),
+        (8, 20),
+        (6, 20),
+        (6, 20),
+    ];
+    let table = table_of(rt.alloc(), 3, 3, &list)?;
+    let mut pattern = [false; 9];
+    blank_occupied(&list, &mut pattern);
+    let mut witness = [0; 9];
+    let shown = witness_or_cut(
+        &table,
+        &pattern,
+        0,
+        &mut [0; 9],
+        &mut [0; 9],
+        &mut [0; 9],
+        &mut witness,
+    )?;
+    check(matches!(shown, Finding::Shown))?;
+    check_eq(witness, [115, 25, 0, 0, 55, 25, 25, 0, 55])
+}
+
+// The second way takes back what the first let fall at cell 7.
+#[test]
+fn taken_back(rt: LibcRuntime) -> Result<(), Fail> {
+    let places = [1, 6, 7, 12, 10, 4, 19, 17, 8, 23, 20];
+    let mut list = Vec::new(rt.alloc());
+    list.push((0, 133))?;
+    for place in places.iter() {
+        list.push((*place, 10))?;
+        list.push((*place, 10))?;
+    }
+    check(list.len() < 65536)?;
+    let table = table_of(rt.alloc(), 5, 5, list.as_slice())?;
+    let mut pattern = [false; 25];
+    blank_occupied(list.as_slice(), &mut pattern);
+    let mut falls = [0; 25];
+    let mut rises = [0; 25];
+    let mut witness = [0; 25];
+    let shown = witness_or_cut(
+        &table,
+        &pattern,
+        0,
+        &mut [0; 25],
+        &mut falls,
+        &mut rises,
+        &mut witness,
+    )?;
+    check(matches!(shown, Finding::Shown))?;
+    check_eq([falls[7], rises[7], witness[7]], [10, 10, 20])?;
+    check_eq(
+        [
+            witness[0],
+            witness[1],
+            witness[6],
+            witness[17],
+            witness[8],
+            witness[20],
+        ],
+        [153, 10, 30, 10, 10, 10],
+    )
+}
+
+// A table of forty rows and columns in which the one way goes through all of them, down a staircase.
+#[test]
+fn long_way(rt: LibcRuntime) -> Result<(), Fail> {
+    let mut list = Vec::new(rt.alloc());
+    list.push((0, 100))?;
+    for i in 0..40u16 {
+        let stair = if i < 39 { 41 * i + 1 } else { 1560 };
+        list.push((stair, 20))?;
+        list.push((stair, 20))?;
+        if i > 0 {
+            list.push((41 * i, 20))?;
+            list.push((41 * i, 20))?;
+        }
+    }
+    check(list.len() < 65536)?;
+    let table = table_of(rt.alloc(), 40, 40, list.as_slice())?;
+    let mut pattern = [false; 1600];
+    blank_occupied(list.as_slice(), &mut pattern);
+    let mut witness = [0; 1600];
+    let shown = witness_or_cut(
+        &table,
+        &pattern,
+        0,
+        &mut [0; 1600],
+        &mut [0; 1600],
+        &mut [0; 1600],
+        &mut witness,
+    )?;
+    check(matches!(shown, Finding::Shown))?;
+    check_eq(
+        [
+            witness[0],
+            witness[1],
+            witness[41],
+            witness[42],
+            witness[1599],
+            witness[1560],
+        ],
+        [115, 25, 55, 25, 55, 25],
+    )?;
+    pattern[1560] = false;
+    let barred = witness_or_cut(
+        &table,
+        &pattern,
+        0,
+        &mut [0; 1600],
+        &mut [0; 1600],
+        &mut [0; 1600],
+        &mut witness,
+    )?;
+    check(matches!(barred, Finding::Barred(_)))
+}
+
+// A lone workshop across may not rise, and a cell in its row with two may.
+#[test]
+fn lone_across(rt: LibcRuntime) -> Result<(), Fail> {
+    let heap = rt.alloc();
+    let b = table_of(heap, 2, 2, &ONE_LONE)?;
+    let mut witness = [0; 4];
+    let shown = witness_or_cut(
+        &b,
+        &[true; 4],
+        0,
+        &mut [0; 4],
+        &mut [0; 4],
+        &mut [0; 4],
+        &mut witness,
+    )?;
+    check(matches!(shown, Finding::Shown))?;
+    check_eq(witness, [115, 45, 45, 75])?;
+    let e = table_of(heap, 2, 2, &TWO_LONE)?;
+    let barred = witness_or_cut(
+        &e,
+        &[true; 4],
+        0,
+        &mut [0; 4],
+        &mut [0; 4],
+        &mut [0; 4],
+        &mut witness,
+    )?;
+    check(matches!(barred, Finding::Barred(_)))
+}

@@ -18,3 +18,9 @@ pub record Least-cut (s : Survey) (h : Pattern) (c : ℕ) (rs ks : List Bool) : 
   pub least : (rs′ ks′ : List Bool) → Closed s h c rs′ ks′ → leaves s h c rs ks ≤ leaves s h c rs′ ks′
   pub inner : (rs′ ks′ : List Bool) → Closed s h c rs′ ks′ → leaves s h c rs′ ks′ ≤ leaves s h c rs ks →
       Within (s .rows) rs rs′ × Within (s .columns) ks ks′
+
+-- within the table there is one least cut at most
+unfoldable pub One-cut : Type 0
+One-cut =
+    (s : Survey) (h : Pattern) (c : ℕ) (rs ks rs′ ks′ : List Bool) → Least-cut s h c rs ks → Least-cut s h c rs′ ks′ →
+    ((r : ℕ) → r < s .rows → getD rs r false ≡ getD rs′ r false) × ((k : ℕ) → k < s .columns → getD ks k false ≡ getD ks′ k false)

@@ -142,3 +142,9 @@ pub data Run (s : Survey) (h : Pattern) (c : ℕ) : ℕ → List ℕ → List �
       Run s h c (l - carried s h c (standing s falls rises) l)
       (next-falls s h c (standing s falls rises) l falls) (next-rises s h c (standing s falls rises) l rises) l′ falls′ rises′ →
       Run s h c l falls rises l′ falls′ rises′
+
+-- a run has one result at most
+unfoldable pub One-run : Type 0
+One-run =
+    (s : Survey) (h : Pattern) (c l : ℕ) (falls rises : List ℕ) (l₁ : ℕ) (falls₁ rises₁ : List ℕ) (l₂ : ℕ) (falls₂ rises₂ : List ℕ) →
+    Run s h c l falls rises l₁ falls₁ rises₁ → Run s h c l falls rises l₂ falls₂ rises₂ → (l₁ ≡ l₂) × (falls₁ ≡ falls₂) × (rises₁ ≡ rises₂)
