@@ -16,8 +16,7 @@ use Rattle.search.specs.Lacking.{Lists-lacking, Kept, Kept-from}
 use Rattle.search.specs.Moves.{bit-of, no-moves}
 use Rattle.search.specs.Search.{In-order, Least-enough, Refuses, blanked}
 use Rattle.search.specs.declared.moves.Moves.{Moves}
-use Rattle.search.proofs.Patterns.{blanked-more, blanked-all, blanked-lacking, blanked-grows, length-blanked}
-use Rattle.search.proofs.Deciding.{without-witness}
+use Rattle.search.proofs.Patterns.{without-witness, blanked-more, blanked-all, blanked-lacking, blanked-grows, length-blanked}
 
 -- a kept witness serves another pattern that prints only what it leaves as it is
 kept-in : (s : Survey) (h g : Pattern) (c : ℕ) (moves : Moves) (kept : Kept s h c moves) →

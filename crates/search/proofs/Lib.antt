@@ -4,7 +4,6 @@ pub mod Witnesses
 pub mod Order
 pub mod One
 pub mod Right
-pub mod Deciding
 pub mod Steps
 pub mod Sorting
 pub mod Examples

@@ -1,4 +1,4 @@
--- The blanked pattern, entry by entry.
+-- The blanked pattern, entry by entry; and when a pattern fails to protect.
 use mathlib.Core.Path.{_≡_, refl, sym, ap, _∙_}
 use mathlib.Core.Logic.{inl, inr, _≢_}
 use mathlib.Core.Bool.{Bool, true, false, _||_}
@@ -12,10 +12,15 @@ use Rattle.std.proofs.shelf.Tests.{cases-eq, cases-lt, both-ways, or-left, or-r
 use Rattle.std.proofs.shelf.Lists.{ext-getD, length-set, getD-set-same, getD-set-other, getD-past, take-more, take-take, take-append-drop}
 use Rattle.std.proofs.shelf.Counted.{length-map-counting, getD-map-counting}
 use Rattle.std.proofs.shelf.Elements.{has-push, has-append-left}
-use Rattle.survey.specs.Page.{Survey, Pattern, hidden, need}
+use Rattle.survey.specs.Page.{Survey, Pattern, Witness, Protected, hidden, need}
 use Rattle.survey.specs.Promise.{all-hidden}
 use Rattle.survey.specs.Model.{size}
 use Rattle.search.specs.Search.{In-order, among, blanked}
+
+-- a cell that lacks something and has no witness: the pattern doesn't protect
+pub without-witness : (s : Survey) (h : Pattern) (c : ℕ) → c < size s → 0 < need s c → (Witness s h c → ⊥) → Protected s h → ⊥
+unfolding Protected
+without-witness s h c l lacking none protects = none (protects c l lacking)
 
 -- as many entries as the table has cells
 pub length-blanked : (s : Survey) (ds : List ℕ) → length (blanked s ds) ≡ size s

@@ -15,7 +15,7 @@ use Rattle.search.specs.Lacking.{Lists-lacking, Kept, Kept-from}
 use Rattle.search.specs.Moves.{bit-of, no-moves}
 use Rattle.search.specs.declared.moves.Moves.{Moves}
 use Rattle.search.proofs.Blanking.{kept-more, kept-printing, all-served}
-use Rattle.search.proofs.Deciding.{without-witness}
+use Rattle.search.proofs.Patterns.{without-witness}
 use Rattle.search.proofs.Witnesses.{printed-fewer, witness-blank}
 
 -- a cell of a table of at most forty rows and columns lies in one of forty rows and columns
