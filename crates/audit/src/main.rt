@@ -1,4 +1,6 @@
 // Reads a survey and a pattern of blanks, and tells whether the pattern protects, or the first cell that is open.
+#![tactic(auto)]
+
 ghost use Rattle.std.specs.Prelude.{◌≡◌, ◌≤◌, length};
 ghost use Rattle.survey.specs.Model.{model, size};
 ghost use Rattle.audit.specs.Judges.{Judges, Blanked, Answers, ending};

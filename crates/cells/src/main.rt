@@ -1,5 +1,7 @@
 // Prints, of each cell of each survey on standard input, how many workshops it has, its sum, the largest and the second
 // largest turnover, and what it lacks. Surveys stand one after another. It is here to be compared with other programs.
+#![tactic(auto)]
+
 ghost use Rattle.std.specs.Prelude.{◌≡◌, ◌⊎◌, IfOk, string_bytes, MatchResult};
 ghost use Rattle.survey.specs.Model.{model};
 ghost use Rattle.survey.specs.Reading.{Reads, Refuses};

@@ -1,4 +1,6 @@
 // Cuts: what shows that a cell is not protected, and the witness that shows that it is.
+#![tactic(auto)]
+
 ghost use Rattle.survey.specs.Promise.{BarLaw, OneOrOther};
 ghost use Rattle.cut.specs.Least.{OneCut};
 

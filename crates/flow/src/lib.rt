@@ -1,4 +1,6 @@
 // Raising a cell: the ways on which it can rise while the page stays the same, taken one after another.
+#![tactic(auto)]
+
 ghost use Rattle.flow.specs.Ways.{OneRun};
 
 mod lent;

@@ -1,4 +1,6 @@
 // Reads a survey and prints its page, or why there is none.
+#![tactic(auto)]
+
 ghost use Rattle.page.specs.Pages.{Pages};
 
 use command::limits::admitted;

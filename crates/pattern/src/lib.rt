@@ -1,4 +1,6 @@
 // Patterns of blanks, and the promise that a pattern which protects makes a page safe.
+#![tactic(auto)]
+
 ghost use Rattle.survey.specs.Promise.{Guard, ByItself, MoreHidden};
 ghost use Rattle.pattern.specs.Converse.{SafeUnprotected};
 

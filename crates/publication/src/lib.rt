@@ -1,4 +1,6 @@
 // The published page as text, and what its reader can tell.
+#![tactic(auto)]
+
 ghost use Rattle.publication.specs.Example.{Example};
 ghost use Rattle.publication.specs.Worlds.{SameText};
 

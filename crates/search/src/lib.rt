@@ -1,3 +1,5 @@
+#![tactic(auto)]
+
 ghost use Rattle.search.specs.Search.{OneOutcome, SomeOutcome, SearchedRight, SearchedSafe};
 ghost use Rattle.search.specs.Examples.{WorkedExamples};
 

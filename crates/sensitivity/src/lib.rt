@@ -1,4 +1,6 @@
 // Sensitivity: the two largest workshops of each cell, how many there are, and what a cell lacks.
+#![tactic(auto)]
+
 ghost use Rattle.survey.specs.Promise.{TwoLargest};
 
 pub mod profile;

@@ -1,10 +1,10 @@
 -- The sum of a line is the sum of the workshops that have its mark. Assumes nothing.
-use Rattle.std.proofs.Common.{◌≡◌, ℕ, ◌/◌, ◌%◌, List, [], ◌∷◌, map, length, vec_items, sym, refl, ap, ◌∙◌}
+use Rattle.std.proofs.Common.{◌≡◌, ℕ, ◌/◌, ◌%◌, List, [], ◌∷◌, map, vec_items, sym, refl, ap, ◌∙◌}
 use Rattle.std.proofs.lemmas.List.{length-map}
 use Rattle.survey.proofs.Totals.{rows_of_map, columns_of_map, one_mark}
 use Rattle.survey.specs.Lines.{line_mark, line_number, line_total}
 use Rattle.survey.specs.Model.{cells_of, turnovers_of, model}
-use Rattle.survey.specs.Survey.{sum_at, rows_of, columns_of}
+use Rattle.survey.specs.Survey.{sum_at}
 use Rattle.survey.specs.declared.checked.Survey.{Survey}
 use Rattle.survey.specs.declared.sums.Line.{Line}
 use Rattle.survey.specs.declared.sums.Line.TheVariants.{Row, Column, All}

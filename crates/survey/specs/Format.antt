@@ -1,6 +1,6 @@
 -- The survey's bytes: rows, columns, percentage, the number of workshops in two bytes, and six bytes for each workshop, its
 -- cell in two and its turnover in four, low byte first. What they say, and which refusal is first. Assumes nothing.
-use Rattle.std.specs.Prelude.{ℕ, zero, suc, ◌+◌, ◌-◌, ◌*◌, ◌<◌, ◌≤◌, Bool, true, false, ◌&&◌, List, map, length, Some, None, Option, ◌==◌, nat_le, nat_lt, slice_index}
+use Rattle.std.specs.Prelude.{ℕ, zero, suc, ◌+◌, ◌*◌, Bool, true, false, ◌&&◌, List, map, length, Some, None, Option, ◌==◌, nat_le, nat_lt, slice_index}
 use Rattle.std.specs.List.{range_with_len}
 use Rattle.survey.specs.Page as page
 use Rattle.survey.specs.declared.refusal.Refusal.{Refusal}

@@ -1,6 +1,6 @@
 -- The published page, turnovers that give the same page, and what protects a cell. Assumes nothing: these are definitions.
-use Rattle.std.specs.Prelude.{◌≡◌, ℕ, zero, suc, ◌+◌, ◌-◌, ◌*◌, ◌/◌, ◌%◌, ◌<◌, ◌≤◌, Bool, true, false, not, ◌&&◌, ◌≢◌, ◌⊎◌, List, [], ◌∷◌, length, get_or, slice_index, slice_index_or}
-use Rattle.survey.specs.Survey.{pick, sum_at, rows_of, columns_of, cell_sum, row_sum, column_sum, largest, many, second, open_above, lacks}
+use Rattle.std.specs.Prelude.{◌≡◌, ℕ, zero, suc, ◌+◌, ◌*◌, ◌<◌, ◌≤◌, Bool, false, ◌≢◌, List, length, get_or, slice_index, slice_index_or}
+use Rattle.survey.specs.Survey.{cell_sum, row_sum, column_sum, largest, many, open_above, lacks}
 
 -- the survey: the table's rows and columns, the percentage, and for each workshop its cell and its turnover
 pub record Survey : Type 0 where

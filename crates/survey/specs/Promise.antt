@@ -1,7 +1,7 @@
 -- What is promised. Each is a statement, a type; it is proved where a function's contract names it. Assumes nothing.
-use Rattle.std.specs.Prelude.{◌≡◌, ℕ, zero, suc, ◌+◌, ◌-◌, ◌*◌, ◌/◌, ◌%◌, ◌<◌, ◌≤◌, Bool, true, false, not, ◌&&◌, ◌≢◌, ◌⊎◌, List, [], ◌∷◌, ◌++◌, length, get_or, ◌==◌, nat_lt, slice_index, slice_index_or, slice_set}
-use Rattle.survey.specs.Survey.{pick, cell_sum, row_sum, column_sum, largest, second, many, open_above, lacks, sum_of_all}
-use Rattle.survey.specs.Page.{Survey, Sound, Pattern, hidden, Agrees, Open, Safe, span, true_sum, need, Witness, Protected}
+use Rattle.std.specs.Prelude.{◌≡◌, ℕ, zero, suc, ◌+◌, ◌-◌, ◌*◌, ◌/◌, ◌%◌, ◌<◌, ◌≤◌, Bool, true, false, not, ◌&&◌, ◌≢◌, ◌⊎◌, List, [], ◌∷◌, length, get_or, ◌==◌, nat_lt, slice_index, slice_index_or, slice_set}
+use Rattle.survey.specs.Survey.{pick, row_sum, column_sum, largest, second, many, sum_of_all}
+use Rattle.survey.specs.Page.{Survey, Sound, Pattern, hidden, Open, Safe, span, true_sum, need, Witness, Protected}
 
 -- THE MAIN PROMISE: a protected page is safe, for each workshop against each other one
 unfoldable pub Guard : Type 0

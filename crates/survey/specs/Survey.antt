@@ -1,6 +1,6 @@
 -- The survey: which workshop lies in which cell with which turnover; sums of cells, rows and columns; what must stay
 -- open above a turnover, and what a cell lacks by itself. Assumes nothing: these are definitions.
-use Rattle.std.specs.Prelude.{◌≡◌, ℕ, zero, suc, ◌+◌, ◌-◌, ◌*◌, ◌/◌, ◌%◌, ◌<◌, ◌≤◌, max, Bool, true, false, not, ◌&&◌, List, [], ◌∷◌, length, ◌==◌, nat_lt}
+use Rattle.std.specs.Prelude.{ℕ, ◌+◌, ◌-◌, ◌*◌, ◌/◌, ◌%◌, max, Bool, true, false, List, [], ◌∷◌, ◌==◌, nat_lt}
 
 -- the first where the test is true, else the second
 abbrev pub pick : {A : Type 0} → Bool → A → A → A

@@ -1,4 +1,6 @@
 // The survey: bytes to a checked survey, and its sums.
+#![tactic(auto)]
+
 ghost use Rattle.survey.specs.Promise.{AddsUp};
 
 pub mod checked;

@@ -10,11 +10,11 @@ pub returns-in-Ok : goal.returns-in-Ok
 returns-in-Ok c =
     let n = size (model c.args.survey.now) in
     let bytes = c.args.bytes.now in
-    let made : c.in-ok-pattern.pattern.len ≡ n = c.in-ok-pattern.ensures.len ∙ c.cells.ensures.value in
-    let long : length c.deref-mut.result.now ≡ n = c.deref-mut.ensures.len ∙ made in
+    let made : c.in_ok-pattern.pattern.len ≡ n = c.in_ok-pattern.ensures.len ∙ c.cells.ensures.value in
+    let long : length c.deref_mut.result.now ≡ n = c.deref_mut.ensures.len ∙ made in
     let taken : pattern_verdict n bytes n ≡ None = subst (λ (m : ℕ). pattern_verdict n bytes m ≡ None) long c.in-Ok.ensures.0 in (
       taken,
-      with_items_is c.in-ok-pattern.pattern c.from-bytes.new.pattern (c.from-bytes.auto.pattern ∙ c.deref-mut.ensures.len)
+      with_items_is c.in_ok-pattern.pattern c.from_bytes.new.pattern (c.from_bytes.auto.pattern ∙ c.deref_mut.ensures.len)
           ∙ wrote_pattern n bytes _ _ (taken_long n bytes n taken) long c.in-Ok.ensures.1,
       made,
     )

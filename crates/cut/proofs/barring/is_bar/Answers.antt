@@ -16,10 +16,10 @@ bounds-cut-cell c =
       s.few_rows,
     ))
 
-pub returns-then-not-is-shut : goal.returns-then-not-is-shut
-returns-then-not-is-shut c = record {
+pub returns-then-not-is_shut : goal.returns-then-not-is_shut
+returns-then-not-is_shut c = record {
   sound = λ e. absurd (both_ways false refl e);
-  whole = λ bar. sym c.if-not-is-shut.true ∙ c.is-shut.ensures.whole (bar_shut _ _ _ _ _ bar);
+  whole = λ bar. sym c.if-not-is_shut.true ∙ c.is_shut.ensures.whole (bar_shut _ _ _ _ _ bar);
 }
 
 pub returns : goal.returns
@@ -28,7 +28,7 @@ returns c =
     let columns : c.columns-columns.result ≡ s.columns = cc in
     record {
       sound = λ less. bar_made (model s) c.args.pattern.now c.args.cell _ _ c.columns-columns.result c.leaving.result c.lack-lacking.result columns
-          c.leaving.ensures c.lack-lacking.ensures c.if-not-cut-cell.false c.if-cut-cell.false (c.is-shut.ensures.sound c.if-not-is-shut.false) less;
+          c.leaving.ensures c.lack-lacking.ensures c.if-not-cut-cell.false c.if-cut-cell.false (c.is_shut.ensures.sound c.if-not-is_shut.false) less;
       whole = λ bar. bar_less (model s) c.args.pattern.now c.args.cell _ _ c.columns-columns.result c.leaving.result c.lack-lacking.result columns
           c.leaving.ensures c.lack-lacking.ensures bar;
     }

@@ -14,7 +14,7 @@ returns-then-profile-gt1 c =
       sound = λ e. absurd (both_ways false refl e);
       whole = λ shut. absurd (not_shut (model s) c.args.pattern.now c.args.cut.now.rows c.args.cut.now.columns c.loop-r.r c.loop-k.k
           c.columns-columns.result _ _ columns (omega arith) (omega arith) c.if-not-cut-r.true c.if-cut-k.true
-          c.is-blank.ensures c.if-is-blank.true (ap (λ (p : Profile). p.workshops) c.profile.ensures) c.if-profile-gt1.true shut);
+          c.is_blank.ensures c.if-is_blank.true (ap (λ (p : Profile). p.workshops) c.profile.ensures) c.if-profile-gt1.true shut);
     }
 
 pub returns : goal.returns

@@ -12,15 +12,15 @@ loop-k-init c =
     let none = out_first (model c.args.table.now.survey) c.args.pattern.now c.args.cell c.args.cut.now.rows c.args.cut.now.columns c.loop-r.r in
     (omega (arith, c.loop-r.invariant.0), omega (arith, c.loop-r.invariant.1))
 
-pub overflow-add-left : goal.overflow-add-left
-overflow-add-left c =
+pub overflow_add-left : goal.overflow_add-left
+overflow_add-left c =
     let s = c.args.table.now.survey in
     let rows : c.rows-rows.result ≡ s.rows = cc in
     let columns : c.columns-columns.result ≡ s.columns = cc in
     omega (
       arith,
       c.loop-k.invariant.1,
-      c.may-give-left.ensures,
+      c.may_give-left.ensures,
       give_bound s c.args.pattern.now c.args.cell (c.loop-r.r * c.columns-columns.result + c.loop-k.k),
       s.few_rows,
       s.few_columns,
@@ -33,12 +33,12 @@ loop-k-preserved c =
     elim c.if-cut-r.branch [
       | then-cut-r+then-not-cut-k w ↦ (
         leaving_more (model s) c.args.pattern.now c.args.cell c.args.cut.now.rows c.args.cut.now.columns c.loop-r.r c.loop-k.k c.loop-k.left _ c.loop-k.invariant.0
-            c.columns-columns.result w.may-give-left.result columns w.if-cut-r.true w.if-not-cut-k.true w.may-give-left.ensures w.left-is,
+            c.columns-columns.result w.may_give-left.result columns w.if-cut-r.true w.if-not-cut-k.true w.may_give-left.ensures w.left-is,
         omega (
           arith,
           c.loop-k.invariant.1,
           w.left-is,
-          w.may-give-left.ensures,
+          w.may_give-left.ensures,
           give_bound s c.args.pattern.now c.args.cell (c.loop-r.r * c.columns-columns.result + c.loop-k.k),
         ),
       )

@@ -5,17 +5,17 @@ use Rattle.survey.proofs.Cells.{largest_le_sum}
 use Rattle.cut.proofs.Leaving.{give_printed, give_own, give_few, give_rest}
 use Rattle.cut.proofs.barring.may_give.Goals as goal
 
-pub returns-then-not-is-blank : goal.returns-then-not-is-blank
-returns-then-not-is-blank c = elim c.then-not-is-blank.either [
-  | inl printed ↦ give_printed _ _ _ _ (sym c.is-blank.ensures ∙ printed)
+pub returns-then-not-is_blank : goal.returns-then-not-is_blank
+returns-then-not-is_blank c = elim c.then-not-is_blank.either [
+  | inl printed ↦ give_printed _ _ _ _ (sym c.is_blank.ensures ∙ printed)
   | inr (_, own) ↦ give_own _ _ _ _ own
 ]
 
 pub returns-then-profile-lt2 : goal.returns-then-profile-lt2
 returns-then-profile-lt2 c = give_few _ _ _ _ (omega (arith, ap (λ (p : Profile). p.workshops) c.profile-profile.ensures))
 
-pub overflow-sub-result : goal.overflow-sub-result
-overflow-sub-result c =
+pub overflow_sub-result : goal.overflow_sub-result
+overflow_sub-result c =
     omega (
       arith,
       ap (λ (p : Profile). p.sum) c.profile-profile.ensures,
@@ -26,5 +26,5 @@ overflow-sub-result c =
 pub returns : goal.returns
 returns c =
     (λ i. (c.profile-profile.ensures i).sum - (c.profile-profile.ensures i).largest)
-    ∙ give_rest _ _ _ _ (sym c.is-blank.ensures ∙ c.if-not-is-blank.false) c.if-d-cell.false
+    ∙ give_rest _ _ _ _ (sym c.is_blank.ensures ∙ c.if-not-is_blank.false) c.if-d-cell.false
     (omega (arith, ap (λ (p : Profile). p.workshops) c.profile-profile.ensures))

@@ -12,8 +12,8 @@ loop-lacking-init c =
     (sym c.lack-lacking.ensures)
     (running_first _ _ _ _ s.some_columns (need_small s c.args.cell) (sum_small s) _ _ c.requires.no_falls c.requires.no_rises c.requires.afoot)
 
-pub find-way-search-requires : goal.find-way-search-requires
-find-way-search-requires c = record {
+pub find_way-search-requires : goal.find_way-search-requires
+find_way-search-requires c = record {
   afoot = c.loop-lacking.invariant.afoot;
   inside = need_inside c.args.table.now.survey c.args.cell (omega (arith, c.loop-lacking.invariant.less));
 }
@@ -23,26 +23,26 @@ returns-then-not-search c =
     let s = c.args.table.now.survey in
     record {
       run = running_stuck _ _ _ _ s.some_columns (need_small s c.args.cell) (sum_small s) _ _ _ _ _ c.loop-lacking.invariant (omega arith)
-          (left_by _ _ _ _ _ _ c.find-way-search.ensures c.if-not-search.true);
+          (left_by _ _ _ _ _ _ c.find_way-search.ensures c.if-not-search.true);
       afoot = c.loop-lacking.invariant.afoot;
       less = c.loop-lacking.invariant.less;
-      marked = marked_stuck _ _ _ _ _ _ c.find-way-search.ensures c.if-not-search.true (omega arith) c.marks.ensures.long c.marks-then-not-search.ensures.long
+      marked = marked_stuck _ _ _ _ _ _ c.find_way-search.ensures c.if-not-search.true (omega arith) c.marks.ensures.long c.marks-then-not-search.ensures.long
           c.marks.ensures.each c.marks-then-not-search.ensures.each;
     }
 
 pub carry-lacking-requires : goal.carry-lacking-requires
 carry-lacking-requires c = record {
   afoot = c.loop-lacking.invariant.afoot;
-  searched = c.find-way-search.ensures;
+  searched = c.find_way-search.ensures;
   found = c.if-not-search.false;
   small = omega (arith, c.loop-lacking.invariant.less, need_small c.args.table.now.survey c.args.cell);
 }
 
-pub overflow-sub-lacking : goal.overflow-sub-lacking
-overflow-sub-lacking c =
+pub overflow_sub-lacking : goal.overflow_sub-lacking
+overflow_sub-lacking c =
     let s = c.args.table.now.survey in
     (running_less _ _ _ _ s.some_columns (need_small s c.args.cell) (sum_small s) _ _ _ _ _ c.loop-lacking.invariant _ (omega arith)
-    (left_by _ _ _ _ _ _ c.find-way-search.ensures c.if-not-search.false) c.carry-lacking.ensures.amount).1
+    (left_by _ _ _ _ _ _ c.find_way-search.ensures c.if-not-search.false) c.carry-lacking.ensures.amount).1
 
 pub loop-lacking-smaller : goal.loop-lacking-smaller
 loop-lacking-smaller c =
@@ -50,14 +50,14 @@ loop-lacking-smaller c =
     omega (
       arith,
       running_less _ _ _ _ s.some_columns (need_small s c.args.cell) (sum_small s) _ _ _ _ _ c.loop-lacking.invariant _ (omega arith)
-          (left_by _ _ _ _ _ _ c.find-way-search.ensures c.if-not-search.false) c.carry-lacking.ensures.amount,
+          (left_by _ _ _ _ _ _ c.find_way-search.ensures c.if-not-search.false) c.carry-lacking.ensures.amount,
     )
 
 pub loop-lacking-preserved : goal.loop-lacking-preserved
 loop-lacking-preserved c =
     let s = c.args.table.now.survey in
     running_next _ _ _ _ s.some_columns (need_small s c.args.cell) (sum_small s) _ _ _ _ _ c.loop-lacking.invariant _ _ _ (omega arith)
-    (left_by _ _ _ _ _ _ c.find-way-search.ensures c.if-not-search.false) c.carry-lacking.ensures.amount
+    (left_by _ _ _ _ _ _ c.find_way-search.ensures c.if-not-search.false) c.carry-lacking.ensures.amount
     c.carry-lacking.ensures.falls c.carry-lacking.ensures.rises
 
 pub returns : goal.returns

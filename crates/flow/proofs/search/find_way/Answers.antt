@@ -4,7 +4,7 @@ use Rattle.flow.proofs.Tests.{fall_told}
 use Rattle.flow.specs.declared.search.Search.{Search}
 use Rattle.flow.proofs.Searches.{Round, Going, round_first, going_start, going_idle, going_next, going_skip, going_mark, going_as, going_long, none_yet, round_next, no_way_found, way_found}
 use Rattle.flow.proofs.search.find_way.Goals as goal
-use Rattle.flow.proofs.search.find_way.Goals.{then-search-k-eq-NEVER+then-can-fall+else-k-cell, else-search-k-eq-NEVER, else-search-k-eq-NEVER-via-then-search-k-eq-NEVER+else-can-fall, else-search-k-eq-NEVER-via-else-search-k-eq-NEVER}
+use Rattle.flow.proofs.search.find_way.Goals.{then-search-k-eq-NEVER+then-can_fall+else-k-cell, else-search-k-eq-NEVER, else-search-k-eq-NEVER-via-then-search-k-eq-NEVER+else-can_fall, else-search-k-eq-NEVER-via-else-search-k-eq-NEVER}
 use Rattle.flow.proofs.search.find_way.Goals.{then-search-r+else-loop-k-test, else-search-r}
 
 pub bounds-search-cell : goal.bounds-search-cell
@@ -20,8 +20,8 @@ search-init c =
     round_first _ _ _ _ s.some_columns c.requires.inside s.few_rows s.few_columns _
     (ap (λ (i : ℕ). set (replicate 40 64) (c.args.cell / i) 0) columns) refl refl refl refl
 
-pub can-fall-requires : goal.can-fall-requires
-can-fall-requires c =
+pub can_fall-requires : goal.can_fall-requires
+can_fall-requires c =
     let s = c.args.table.now.survey in
     let rows : c.rows-rows.result ≡ s.rows = cc in
     let columns : c.columns-columns.result ≡ s.columns = cc in
@@ -46,14 +46,14 @@ loop-k-preserved c =
     let rows : c.rows-rows.result ≡ s.rows = cc in
     let columns : c.columns-columns.result ≡ s.columns = cc in
     elim c.if-search-k-eq-NEVER.branch [
-      | then-search-k-eq-NEVER+then-can-fall+else-k-cell w ↦
+      | then-search-k-eq-NEVER+then-can_fall+else-k-cell w ↦
           let onward : (q₀ : Search) → Round _ _ _ _ c.search.round q₀ → Going _ _ _ _ c.search.round c.loop-r.r 0 q₀ c.loop-r.search →
           Going _ _ _ _ c.search.round c.loop-r.r (c.loop-k.k + 1) q₀ c.if-search-k-eq-NEVER.search
           = λ q₀ round going. going_as _ _ _ _ _ _ _ _ _ c.if-search-k-eq-NEVER.search w.search-is
           (going_mark _ _ _ _ s.some_columns c.requires.inside s.few_rows s.few_columns _ _ _ _ _ (c.loop-k.invariant.0 q₀ round going) round
           (omega arith) (omega arith)
           (ap (λ (l : List ℕ). get_or l c.loop-r.r 0) ((c.loop-k.invariant.0 q₀ round going).row_round ∙ sym going.row_round) ∙ c.if-search-r.true)
-          (fall_told _ _ _ _ c.loop-r.r c.loop-k.k _ _ _ columns w.can_fall.ensures w.if-can-fall.true) w.if-search-k-eq-NEVER.true
+          (fall_told _ _ _ _ c.loop-r.r c.loop-k.k _ _ _ columns w.can_fall.ensures w.if-can_fall.true) w.if-search-k-eq-NEVER.true
           (λ e. w.if-k-cell.false (e ∙ ap (λ (i : ℕ). c.args.cell % i) (sym columns)))) in
           let long = going_long _ _ _ _ _ _ _ _ _ c.search.invariant (onward _ c.search.invariant c.loop-r.invariant.0) in
           (onward, long.0, long.1, long.2)
@@ -63,7 +63,7 @@ loop-k-preserved c =
           = λ q₀ round going. going_as _ _ _ _ _ _ _ _ _ c.if-search-k-eq-NEVER.search w.search-is
           (going_skip _ _ _ _ s.some_columns c.requires.inside s.few_rows s.few_columns _ _ _ _ _ (c.loop-k.invariant.0 q₀ round going)
           (elim w.else-search-k-eq-NEVER.branch [
-            | else-search-k-eq-NEVER-via-then-search-k-eq-NEVER+else-can-fall u ↦ inr (fall_told _ _ _ _ c.loop-r.r c.loop-k.k _ _ _ columns u.can_fall.ensures u.if-can-fall.false)
+            | else-search-k-eq-NEVER-via-then-search-k-eq-NEVER+else-can_fall u ↦ inr (fall_told _ _ _ _ c.loop-r.r c.loop-k.k _ _ _ columns u.can_fall.ensures u.if-can_fall.false)
             | else-search-k-eq-NEVER-via-else-search-k-eq-NEVER u ↦ inl u.if-search-k-eq-NEVER.false
           ])) in
           let long = going_long _ _ _ _ _ _ _ _ _ c.search.invariant (onward _ c.search.invariant c.loop-r.invariant.0) in
@@ -87,8 +87,8 @@ loop-r-preserved c =
           (going, long.0, long.1, long.2)
     ]
 
-pub reach-rows-requires : goal.reach-rows-requires
-reach-rows-requires c =
+pub reach_rows-requires : goal.reach_rows-requires
+reach_rows-requires c =
     let s = c.args.table.now.survey in
     let rows : c.rows-rows.result ≡ s.rows = cc in
     record {
@@ -102,7 +102,7 @@ search-preserved c =
     let s = c.args.table.now.survey in
     let rows : c.rows-rows.result ≡ s.rows = cc in
     round_next _ _ _ _ s.some_columns c.requires.inside s.few_rows s.few_columns _ _ _ _ _ c.loop-r.invariant.0 c.search.invariant (omega arith) _ _
-    c.reach-rows.ensures.spread (sym c.reach-rows.ensures.more ∙ c.if-not-reach-rows.false)
+    c.reach_rows.ensures.spread (sym c.reach_rows.ensures.more ∙ c.if-not-reach_rows.false)
 
 pub returns-then-k-cell : goal.returns-then-k-cell
 returns-then-k-cell c =
@@ -113,12 +113,12 @@ returns-then-k-cell c =
     way_found _ _ _ _ s.some_columns c.requires.inside s.few_rows s.few_columns _ _ c.loop-r.r c.loop-k.k _ going c.search.invariant
     (omega arith) (omega arith)
     (ap (λ (l : List ℕ). get_or l c.loop-r.r 0) (going.row_round ∙ sym c.loop-r.invariant.0.row_round) ∙ c.if-search-r.true)
-    (fall_told _ _ _ _ c.loop-r.r c.loop-k.k _ _ _ columns c.can_fall.ensures c.if-can-fall.true) c.if-search-k-eq-NEVER.true
+    (fall_told _ _ _ _ c.loop-r.r c.loop-k.k _ _ _ columns c.can_fall.ensures c.if-can_fall.true) c.if-search-k-eq-NEVER.true
     (c.if-k-cell.true ∙ ap (λ (i : ℕ). c.args.cell % i) columns)
 
-pub returns-then-not-reach-rows : goal.returns-then-not-reach-rows
-returns-then-not-reach-rows c =
+pub returns-then-not-reach_rows : goal.returns-then-not-reach_rows
+returns-then-not-reach_rows c =
     let s = c.args.table.now.survey in
     let rows : c.rows-rows.result ≡ s.rows = cc in
     no_way_found _ _ _ _ s.some_columns c.requires.inside s.few_rows s.few_columns _ _ _ _ _ c.loop-r.invariant.0 c.search.invariant (omega arith) _ _
-    c.reach-rows.ensures.spread (sym c.reach-rows.ensures.more ∙ c.if-not-reach-rows.true)
+    c.reach_rows.ensures.spread (sym c.reach_rows.ensures.more ∙ c.if-not-reach_rows.true)

@@ -7,7 +7,7 @@ use Rattle.flow.proofs.search.reach_rows.Given as goal
 
 abbrev pub invariant-loop-k : goal.invariant-loop-k
 invariant-loop-k l =
-    Scan (can_rise_in (model l.table.survey) l.pattern l.cell) (in_round l.column-round l.round)
+    Scan (can_rise_in (model l.table.survey) l.pattern l.cell) (in_round l.column_round l.round)
     (model l.table.survey).columns (model l.table.survey).rows (l.round + 1)
     l.initial.row_round l.initial.row_parent l.k 0 l.row_round l.row_parent
     × (l.more ≡ some_reached l.row_round (l.round + 1) (model l.table.survey).rows)
@@ -16,7 +16,7 @@ invariant-loop-k l =
 
 abbrev pub invariant-loop-r : goal.invariant-loop-r
 invariant-loop-r l =
-    Onward (can_rise_in (model l.table.survey) l.pattern l.cell) (in_round l.column-round l.round)
+    Onward (can_rise_in (model l.table.survey) l.pattern l.cell) (in_round l.column_round l.round)
     (model l.table.survey).columns (model l.table.survey).rows (l.round + 1)
     l.k l.r l.initial.row_round l.initial.row_parent l.row_round l.row_parent
     × (l.more ≡ some_reached l.row_round (l.round + 1) (model l.table.survey).rows)

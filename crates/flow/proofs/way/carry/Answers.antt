@@ -9,8 +9,8 @@ loop-level-init c =
     carries_first _ _ _ _ _ _ _ _ _ _ _ (stands_first _ _ _ _ _ s.some_columns c.requires.searched c.requires.found)
     (c.requires.searched.level c.requires.found) (ap (λ (i : ℕ). c.args.cell % i) columns) c.requires.afoot.long_falls c.requires.afoot.long_rises
 
-pub overflow-add-falls : goal.overflow-add-falls
-overflow-add-falls c =
+pub overflow_add-falls : goal.overflow_add-falls
+overflow_add-falls c =
     let s = c.args.table.now.survey in
     omega (
       arith,
@@ -24,8 +24,8 @@ place-requires-in-loop-level c = record {
   column = column_next _ _ _ _ _ _ _ _ _ _ _ _ _ c.loop-level.invariant (omega arith);
 }
 
-pub overflow-add-rises : goal.overflow-add-rises
-overflow-add-rises c =
+pub overflow_add-rises : goal.overflow_add-rises
+overflow_add-rises c =
     let s = c.args.table.now.survey in
     omega (
       arith,
@@ -37,8 +37,8 @@ pub loop-level-preserved : goal.loop-level-preserved
 loop-level-preserved c =
     carries_next _ _ _ _ _ _ _ _ _ _ _ _ _ c.loop-level.invariant _ _ (omega arith) c.place.ensures.value c.place-in-loop-level.ensures.value
 
-pub overflow-add-falls-2 : goal.overflow-add-falls-2
-overflow-add-falls-2 c =
+pub overflow_add-falls-2 : goal.overflow_add-falls-2
+overflow_add-falls-2 c =
     let s = c.args.table.now.survey in
     omega (
       arith,

@@ -7,8 +7,8 @@ use Rattle.publication.proofs.text.column_sum.Goals as goal
 pub loop-r-init : goal.loop-r-init
 loop-r-init c = added_none _
 
-pub overflow-add-sum : goal.overflow-add-sum
-overflow-add-sum c =
+pub overflow_add-sum : goal.overflow_add-sum
+overflow_add-sum c =
     let s = c.args.table.now.survey in
     let column = c.args.column in
     let wide : c.columns-columns.result ≡ s.columns = cc in

@@ -9,5 +9,5 @@ returns c =
     let s = c.args.table.now.survey in
     let cells = c.cells.ensures.value ∙ ap (λ (t : Survey). size (model t)) c.survey.ensures in (
       omega (arith, cells, c.if-pattern-cells.false),
-      whole_page _ (model s) c.args.pattern.now c.new-text.ensures.bytes c.in-ok-put-rows.ensures c.in-ok-put-sums.ensures,
+      whole_page _ (model s) c.args.pattern.now c.new-text.ensures.bytes c.in_ok-put_rows.ensures c.in_ok-put_sums.ensures,
     )

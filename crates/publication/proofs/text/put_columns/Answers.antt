@@ -7,4 +7,4 @@ loop-column-init c = none_yet _ _ (no_columns _)
 
 pub loop-column-preserved : goal.loop-column-preserved
 loop-column-preserved c =
-    column_more _ (model c.args.table.now.survey) c.loop-column.column c.column_sum.result c.loop-column.invariant c.column_sum.ensures c.in-ok-put-spaced.ensures
+    column_more _ (model c.args.table.now.survey) c.loop-column.column c.column_sum.result c.loop-column.invariant c.column_sum.ensures c.in_ok-put_spaced.ensures

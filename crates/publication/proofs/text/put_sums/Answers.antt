@@ -8,4 +8,4 @@ use Rattle.publication.proofs.text.put_sums.Goals as goal
 pub returns : goal.returns
 returns c =
     sums_end _ _ _ _ (model c.args.table.now.survey) c.total.result
-    c.in-ok-put-columns.ensures (c.total.ensures ∙ ap (λ (s : Survey). sum_of_all (model s).values) c.survey.ensures) c.put-ended.ensures
+    c.in_ok-put_columns.ensures (c.total.ensures ∙ ap (λ (s : Survey). sum_of_all (model s).values) c.survey.ensures) c.put_ended.ensures

@@ -7,8 +7,8 @@ use Rattle.publication.proofs.text.row_sum.Goals as goal
 pub loop-k-init : goal.loop-k-init
 loop-k-init c = added_none _
 
-pub overflow-add-sum : goal.overflow-add-sum
-overflow-add-sum c =
+pub overflow_add-sum : goal.overflow_add-sum
+overflow_add-sum c =
     let s = c.args.table.now.survey in
     let row = c.args.row in
     let wide : c.columns-columns.result ≡ s.columns = cc in

@@ -5,27 +5,27 @@ use Rattle.survey.specs.Model.{model, size}
 use Rattle.survey.specs.Page.{need}
 use Rattle.search.specs.Lacking.{ListsLacking}
 use Rattle.search.proofs.Listing.{lists_none, lists_skip, lists_push}
-use Rattle.search.proofs.lacking.lacking_cells.Goals as needs
-use Rattle.search.proofs.lacking.lacking_cells.Goals.{then-lack-gt0+in-ok-push, else-lack-gt0}
+use Rattle.search.proofs.lacking.lacking_cells.Goals as goal
+use Rattle.search.proofs.lacking.lacking_cells.Goals.{then-lack-gt0+in_ok-push, else-lack-gt0}
 
-pub loop-cell-holds : needs.loop-cell-holds
-loop-cell-holds c = subst (λ (l : List ℕ). ListsLacking (model c.args.table.now.survey) 0 l) (sym c.new-lacking.ensures.items) (lists_none (model c.args.table.now.survey))
+pub loop-cell-init : goal.loop-cell-init
+loop-cell-init c = subst (λ (l : List ℕ). ListsLacking (model c.args.table.now.survey) 0 l) (sym c.new-lacking.ensures.items) (lists_none (model c.args.table.now.survey))
 
-pub loop-cell-again : needs.loop-cell-again
-loop-cell-again c =
+pub loop-cell-preserved : goal.loop-cell-preserved
+loop-cell-preserved c =
     let s = model c.args.table.now.survey in
     let n = c.loop-cell.cell in
     elim c.if-lack-gt0.branch [
-      | then-lack-gt0+in-ok-push w ↦
+      | then-lack-gt0+in_ok-push w ↦
           let items : vec_items c.if-lack-gt0.lacking ≡ vec_items c.loop-cell.lacking ++ n ∷ [] =
-          ap (λ v. vec_items v) w.lacking-is ∙ pushed (n ∷ []) refl w.in-ok-push.was w.push.ensures.items in
+          ap (λ v. vec_items v) w.lacking-is ∙ pushed (n ∷ []) refl w.in_ok-push.was w.push.ensures.items in
           subst (λ (l : List ℕ). ListsLacking s (n + 1) l) (sym items) (lists_push s n _ c.loop-cell.invariant (omega (arith, w.if-lack-gt0.true, c.lack.ensures)))
       | else-lack-gt0 w ↦
           subst (λ (l : List ℕ). ListsLacking s (n + 1) l) (sym (ap (λ v. vec_items v) w.lacking-is))
           (lists_skip s n _ c.loop-cell.invariant (omega (arith, w.if-lack-gt0.false, c.lack.ensures)))
     ]
 
-pub returns : needs.returns
+pub returns : goal.returns
 returns c =
     let s = model c.args.table.now.survey in
     let all : c.loop-cell.cell ≡ size s = omega (arith, c.cells-cell-end.ensures.value, ap (λ t. size (model t)) c.survey.ensures) in

@@ -6,8 +6,8 @@ use Rattle.std.proofs.lemmas.Bool.{cases_eq}
 use Rattle.search.specs.Moves.{bit_of, differs}
 use Rattle.search.proofs.moves.moves_of.Goals as goal
 
-pub row-bits-requires : goal.row-bits-requires
-row-bits-requires c =
+pub row_bits-requires : goal.row_bits-requires
+row_bits-requires c =
     let row = c.loop-row.row in
     let fits : (row + 1) * c.args.columns ≤ c.args.rows * c.args.columns = mul-le (row + 1) c.args.columns c.args.rows c.args.columns (omega arith) (omega arith) in
     record { few = c.requires.few_columns; sums_within = omega (arith, fits, c.requires.sums_within); other_within = omega (arith, fits, c.requires.other_within) }
@@ -16,10 +16,10 @@ pub loop-row-preserved : goal.loop-row-preserved
 loop-row-preserved c =
     let row = c.loop-row.row in
     let rows = c.loop-row.moves.rows in
-    let bits = c.row-bits.result in (
+    let bits = c.row_bits.result in (
       length-set rows row bits ∙ c.loop-row.invariant.0,
       λ r k below within. elim (cases_eq r row) [
-        | inl same ↦ rw same (ap (λ x. bit_of x k) (get_or-set_same rows row bits 0 (omega (arith, c.loop-row.invariant.0, c.requires.few_rows))) ∙ c.row-bits.ensures k within)
+        | inl same ↦ rw same (ap (λ x. bit_of x k) (get_or-set_same rows row bits 0 (omega (arith, c.loop-row.invariant.0, c.requires.few_rows))) ∙ c.row_bits.ensures k within)
         | inr other ↦ ap (λ x. bit_of x k) (get_or-set_other rows row r bits 0 other) ∙ c.loop-row.invariant.1 r k (omega arith) within
       ],
     )

@@ -7,23 +7,23 @@ use Rattle.survey.specs.Model.{model, size}
 use Rattle.survey.specs.Page.{need}
 use Rattle.search.specs.declared.ranking.Ranked.{Ranked}
 use Rattle.search.proofs.Sorting.{Gathered, gathered_skip, gathered_push, sorted_in_order}
-use Rattle.search.proofs.ranking.in_order.Goals as needs
-use Rattle.search.proofs.ranking.in_order.Goals.{then-lack-eq0+in-ok-push, else-lack-eq0}
+use Rattle.search.proofs.ranking.in_order.Goals as goal
+use Rattle.search.proofs.ranking.in_order.Goals.{then-lack-eq0+in_ok-push, else-lack-eq0}
 
-pub loop-cell-again : needs.loop-cell-again
-loop-cell-again c =
+pub loop-cell-preserved : goal.loop-cell-preserved
+loop-cell-preserved c =
     let s = model c.args.table.now.survey in
     let n = c.loop-cell.cell in
     let sum : Ranked → ℕ = λ (p : Ranked). p.sum in
     let cell : Ranked → ℕ = λ (p : Ranked). p.cell in
     elim c.if-lack-eq0.branch [
-      | then-lack-eq0+in-ok-push w ↦
+      | then-lack-eq0+in_ok-push w ↦
           let q : Ranked = record { sum = w.profile.result.sum; cell = n } in
           let items : vec_items c.if-lack-eq0.order ≡ vec_items c.loop-cell.order ++ q ∷ [] =
-          ap (λ v. vec_items v) w.order-is ∙ pushed (q ∷ []) refl w.in-ok-push.was w.push.ensures.items in (
+          ap (λ v. vec_items v) w.order-is ∙ pushed (q ∷ []) refl w.in_ok-push.was w.push.ensures.items in (
             subst (λ (ps : List Ranked). Gathered s sum cell (n + 1) ps) (sym items)
                 (gathered_push s sum cell n _ q c.loop-cell.invariant.0 (sym c.lack.ensures ∙ w.if-lack-eq0.true) refl (ap (λ p. p.sum) w.profile.ensures)),
-            omega (arith, ap (λ v. vec_len v) w.order-is, w.in-ok-push.ensures.len, c.loop-cell.invariant.1),
+            omega (arith, ap (λ v. vec_len v) w.order-is, w.in_ok-push.ensures.len, c.loop-cell.invariant.1),
           )
       | else-lack-eq0 w ↦
           let lacking : 0 < need s n = omega (arith, w.if-lack-eq0.false, c.lack.ensures) in (
@@ -33,7 +33,7 @@ loop-cell-again c =
           )
     ]
 
-pub returns : needs.returns
+pub returns : goal.returns
 returns c =
     let s = model c.args.table.now.survey in
     let sum : Ranked → ℕ = λ (p : Ranked). p.sum in

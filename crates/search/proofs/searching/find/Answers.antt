@@ -14,16 +14,16 @@ settle-requires c =
     let s = model c.args.table.now.survey in
     let many : c.cells-cells.result ≡ size s = c.cells-cells.ensures.value ∙ ap (λ t. size (model t)) c.survey.ensures in
     record {
-      roomy = subst (λ (n : ℕ). Roomy n c.in-ok-scratch.scratch) many c.in-ok-scratch.ensures;
-      listed = subst (λ (l : List ℕ). ListsLacking s (size s) l) (sym c.deref.ensures.value) c.in-ok-lacking.ensures;
-      ordered = subst (λ (l : List Ranked). InOrder s (map (λ (p : Ranked). p.cell) l)) (sym c.deref-2.ensures.value) c.in-ok-order.ensures.0;
-      few = omega (arith, c.deref-2.ensures.len, c.in-ok-order.ensures.1);
-      each = c.deref-mut-2.ensures.len ∙ c.in-ok-moves.ensures.len ∙ c.len.ensures ∙ sym c.deref.ensures.len;
-      blank = c.deref-mut.ensures.value ∙ c.in-ok-pattern.ensures.items-if-clones-equal (λ y same. same) ∙ replicate_hidden c.cells-cells.result ∙ ap Rattle.survey.specs.Promise.all_hidden many;
+      roomy = subst (λ (n : ℕ). Roomy n c.in_ok-scratch.scratch) many c.in_ok-scratch.ensures;
+      listed = subst (λ (l : List ℕ). ListsLacking s (size s) l) (sym c.deref.ensures.value) c.in_ok-lacking.ensures;
+      ordered = subst (λ (l : List Ranked). InOrder s (map (λ (p : Ranked). p.cell) l)) (sym c.deref-2.ensures.value) c.in_ok-order.ensures.0;
+      few = omega (arith, c.deref-2.ensures.len, c.in_ok-order.ensures.1);
+      each = c.deref_mut-2.ensures.len ∙ c.in_ok-moves.ensures.len ∙ c.len.ensures ∙ sym c.deref.ensures.len;
+      blank = c.deref_mut.ensures.value ∙ c.in_ok-pattern.ensures.items_if_clones_equal (λ y same. same) ∙ replicate_hidden c.cells-cells.result ∙ ap Rattle.survey.specs.Promise.all_hidden many;
     }
 
 pub returns : goal.returns
 returns c =
     subst (λ (h : Pattern). Finds (model c.args.table.now.survey) h)
-    (sym (with_items_is c.in-ok-pattern.pattern c.settle.new.pattern (c.settle.auto.pattern ∙ c.deref-mut.ensures.len)))
+    (sym (with_items_is c.in_ok-pattern.pattern c.settle.new.pattern (c.settle.auto.pattern ∙ c.deref_mut.ensures.len)))
     c.in-None.ensures

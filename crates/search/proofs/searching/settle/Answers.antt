@@ -10,45 +10,45 @@ use Rattle.search.proofs.searching.settle.Goals as goal
 
 pub unreachable-requires : goal.unreachable-requires
 unreachable-requires c =
-    omega (arith, c.in-default.ensures.0, ap length c.requires.blank, length_all_hidden (size (model c.args.table.now.survey)))
+    omega (arith, c.in_default.ensures.0, ap length c.requires.blank, length_all_hidden (size (model c.args.table.now.survey)))
 
-pub blank-enough-k-requires : goal.blank-enough-k-requires
-blank-enough-k-requires c =
+pub blank_enough-k-requires : goal.blank_enough-k-requires
+blank_enough-k-requires c =
     let wrote = c.in-Ok.ensures.1 in
     record {
-      roomy = c.first-open.ensures.room;
+      roomy = c.first_open.ensures.room;
       listed = c.requires.listed;
       ordered = c.requires.ordered;
       few = c.requires.few;
-      first = blanked_first (model c.args.table.now.survey) c.blank-lacking.new.pattern
+      first = blanked_first (model c.args.table.now.survey) c.blank_lacking.new.pattern
           (wrote.long ∙ ap length c.requires.blank ∙ length_all_hidden (size (model c.args.table.now.survey))) wrote.here;
       each = c.requires.each;
       can = c.in-None.ensures.found;
     }
 
-pub print-back-requires : goal.print-back-requires
-print-back-requires c =
+pub print_back-requires : goal.print_back-requires
+print_back-requires c =
     record {
-      roomy = c.blank-enough-k.ensures.room;
+      roomy = c.blank_enough-k.ensures.room;
       listed = c.requires.listed;
       ordered = c.requires.ordered;
       few = c.requires.few;
-      within = omega (arith, c.blank-enough-k.ensures.enough.within, length-map c.args.order.now (λ (p : Ranked). p.cell));
-      long = ap length c.blank-enough-k.ensures.blanks ∙ length_blanked (model c.args.table.now.survey) _;
-      each = c.blank-enough-k.auto.moves ∙ c.requires.each;
-      kept = c.blank-enough-k.ensures.kept;
+      within = omega (arith, c.blank_enough-k.ensures.enough.within, length-map c.args.order.now (λ (p : Ranked). p.cell));
+      long = ap length c.blank_enough-k.ensures.blanks ∙ length_blanked (model c.args.table.now.survey) _;
+      each = c.blank_enough-k.auto.moves ∙ c.requires.each;
+      kept = c.blank_enough-k.ensures.kept;
     }
 
 pub returns : goal.returns
 returns c =
     let s = model c.args.table.now.survey in
     let cs = map (λ (p : Ranked). p.cell) c.args.order.now in
-    let k = c.blank-enough-k.result in
+    let k = c.blank_enough-k.result in
     record {
       can = c.in-None.ensures.found;
       order = cs;
       count = k;
       in_order = c.requires.ordered;
-      least_enough = c.blank-enough-k.ensures.enough;
-      printed_back = subst (λ (h : Pattern). PrintedBack s cs k h c.print-back.new.pattern) c.blank-enough-k.ensures.blanks c.print-back.ensures;
+      least_enough = c.blank_enough-k.ensures.enough;
+      printed_back = subst (λ (h : Pattern). PrintedBack s cs k h c.print_back.new.pattern) c.blank_enough-k.ensures.blanks c.print_back.ensures;
     }

@@ -37,8 +37,8 @@ room c =
       blanking_room _ _ _ _ _ _ _ c.loop-i.invariant.1 c.requires.listed (omega arith) c.in-None.ensures.found c.requires.ordered c.requires.can,
     )
 
-pub offset-bounds-order-k : goal.offset-bounds-order-k
-offset-bounds-order-k c = omega (arith, room c, c.requires.few)
+pub offset_bounds-order-k : goal.offset_bounds-order-k
+offset_bounds-order-k c = omega (arith, room c, c.requires.few)
 
 pub bounds-order-k : goal.bounds-order-k
 bounds-order-k c = room c
@@ -63,8 +63,8 @@ bounds-pattern-order c =
       blanking_long _ _ _ _ _ _ _ c.loop-i.invariant.1 c.requires.listed,
     )
 
-pub overflow-add-k : goal.overflow-add-k
-overflow-add-k c = omega (arith, room c, c.requires.few)
+pub overflow_add-k : goal.overflow_add-k
+overflow_add-k c = omega (arith, room c, c.requires.few)
 
 pub loop-i-smaller : goal.loop-i-smaller
 loop-i-smaller c = omega (arith, room c)

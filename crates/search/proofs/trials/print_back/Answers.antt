@@ -20,8 +20,8 @@ ranked_cell ps i below = sym (get_or-map (λ (p : Ranked). p.cell) ps i (record 
 ranked_has : (ps : List Ranked) (i : ℕ) → i < length ps → Has (map (λ (p : Ranked). p.cell) ps) (get_or (map (λ (p : Ranked). p.cell) ps) i 0)
 ranked_has ps i below = has_get_or (map (λ (p : Ranked). p.cell) ps) i 0 (omega (arith, length-map ps (λ (p : Ranked). p.cell)))
 
-pub print-again-requires : goal.print-again-requires
-print-again-requires c =
+pub print_again-requires : goal.print_again-requires
+print_again-requires c =
     let ps = c.args.order.now in
     let j = c.loop-j.j - 1 in
     let below : j < length ps = omega (arith, c.requires.within) in
@@ -52,10 +52,10 @@ loop-j-preserved c =
     let ps = c.args.order.now in
     let j = c.loop-j.j - 1 in
     let below : j < length ps = omega (arith, c.requires.within) in (
-      c.print-again.ensures.room,
-      c.print-again.auto.pattern ∙ c.loop-j.invariant.1,
-      c.print-again.ensures.keeps,
-      tried_step _ _ _ _ c.loop-j.j _ _ _ c.print-again.result c.loop-j-test.true (ranked_cell ps j below) c.loop-j.invariant.3 c.print-again.ensures.tried,
+      c.print_again.ensures.room,
+      c.print_again.auto.pattern ∙ c.loop-j.invariant.1,
+      c.print_again.ensures.keeps,
+      tried_step _ _ _ _ c.loop-j.j _ _ _ c.print_again.result c.loop-j-test.true (ranked_cell ps j below) c.loop-j.invariant.3 c.print_again.ensures.tried,
     )
 
 pub returns : goal.returns

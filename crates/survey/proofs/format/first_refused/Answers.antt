@@ -1,5 +1,5 @@
 -- One workshop is looked at, and what is left is one fewer.
-use Rattle.std.proofs.Common.{◌≡◌, ℕ, suc, ◌+◌, ◌-◌, sym, ap, ◌∙◌, arith}
+use Rattle.std.proofs.Common.{◌≡◌, suc, ◌+◌, ◌-◌, sym, ap, ◌∙◌, arith}
 use Rattle.survey.specs.Format.{first_bad}
 use Rattle.survey.proofs.format.first_refused.Goals as goal
 

@@ -7,6 +7,6 @@ pub returns : goal.returns
 returns c =
     let six : (11 + 6 * c.args.i) - (5 + 6 * c.args.i) ≡ 6 = omega arith in
     record {
-      cell = c.workshop-of.ensures.cell ∙ cell_of_part c.args.bytes.now c.args.i _ six;
-      turnover = c.workshop-of.ensures.turnover ∙ turnover_of_part c.args.bytes.now c.args.i _ six;
+      cell = c.workshop_of.ensures.cell ∙ cell_of_part c.args.bytes.now c.args.i _ six;
+      turnover = c.workshop_of.ensures.turnover ∙ turnover_of_part c.args.bytes.now c.args.i _ six;
     }

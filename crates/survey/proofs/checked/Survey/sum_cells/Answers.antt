@@ -1,5 +1,5 @@
 -- Each workshop's cell is in the table and its turnover in range, by the survey's invariant.
-use Rattle.std.proofs.Common.{◌≡◌, ℕ, ◌*◌, ◌<◌, ◌≤◌, List, length, get_or, sym, subst, arith}
+use Rattle.std.proofs.Common.{List, get_or, subst, arith}
 use Rattle.survey.proofs.Facts.{few_items, item_inside, item_in_range}
 use Rattle.survey.proofs.Pushed.{summed_none, summed_more, summed_all}
 use Rattle.survey.proofs.checked.Survey.sum_cells.Goals as goal
@@ -11,8 +11,8 @@ use Rattle.survey.specs.declared.workshop.Workshop.{Workshop}
 pub loop-workshop-init : goal.loop-workshop-init
 loop-workshop-init c = summed_none _ _ _ c.requires.clear
 
-pub overflow-add-sums : goal.overflow-add-sums
-overflow-add-sums c =
+pub overflow_add-sums : goal.overflow_add-sums
+overflow_add-sums c =
     let s = c.args.self.now in
     let i = c.loop-workshop.workshop-index in
     let ws = c.deref-workshop-items.result.now in
