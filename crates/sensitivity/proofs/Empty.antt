@@ -1,6 +1,6 @@
 -- A cell past the table has no workshop. Assumes nothing.
-use Rattle.std.proofs.Common.{◌≡◌, ℕ, ◌*◌, ◌≤◌, sym, arith}
-use Rattle.survey.proofs.Cells.{none_counted, none_sum, largest_le_sum, two_le_sum}
+use Rattle.std.proofs.Common.{◌≡◌, ℕ, ◌≤◌, arith}
+use Rattle.survey.proofs.Cells.{none_counted, none_sum, two_le_sum}
 use Rattle.survey.specs.Model.{size}
 use Rattle.survey.specs.Page.{Survey, Sound}
 use Rattle.survey.specs.Survey.{many, sum_at, largest, second}

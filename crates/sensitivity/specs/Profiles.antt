@@ -1,5 +1,5 @@
 -- What is known of a cell, how it changes with one workshop more, and what the cell lacks. Assumes nothing: these are definitions.
-use Rattle.std.specs.Prelude.{◌≡◌, ℕ, ◌+◌, ◌-◌, ◌<◌, ◌≤◌, min, max, List}
+use Rattle.std.specs.Prelude.{ℕ, ◌+◌, ◌-◌, min, max, List}
 use Rattle.survey.specs.Survey.{sum_at, largest, second, many, open_above}
 use Rattle.sensitivity.specs.declared.profile.Profile.{Profile}
 

@@ -1,5 +1,5 @@
 -- Each workshop joins its cell's profile.
-use Rattle.std.proofs.Common.{◌≡◌, List, get_or, subst, arith}
+use Rattle.std.proofs.Common.{List, get_or, subst, arith}
 use Rattle.survey.proofs.Facts.{few_items, item_inside, item_in_range}
 use Rattle.survey.specs.Lending.{Written}
 use Rattle.survey.specs.Model.{cells_of, turnovers_of, model, size}

@@ -1,8 +1,8 @@
 -- All profiles are empty before the tally, and are the cells' own after it.
-use Rattle.std.proofs.Common.{◌≡◌, ℕ, ◌<◌, List, ◌++◌, length, get_or, take, drop, replicate, vec_items, vec_len, sym, refl, ap, ◌∙◌, arith}
+use Rattle.std.proofs.Common.{◌≡◌, ℕ, ◌<◌, List, ◌++◌, length, get_or, take, drop, replicate, ap, ◌∙◌, arith}
 use Rattle.std.proofs.lemmas.List.{get_or-replicate, length-replicate, get_or-take, get_or_append_left, get_or_default}
 use Rattle.survey.specs.Model.{model, size}
-use Rattle.sensitivity.specs.Profiles.{profile_of, no_profile}
+use Rattle.sensitivity.specs.Profiles.{no_profile}
 use Rattle.sensitivity.specs.declared.profile.Profile.{Profile}
 use Rattle.sensitivity.proofs.table.Table.new.Goals as goal
 use Rattle.sensitivity.proofs.table.Table.new.Goals.{After-deref_mut}
@@ -31,4 +31,7 @@ pub invariant_of-result : goal.invariant_of-result
 invariant_of-result c =
     let len : c.in_ok-profiles.profiles.len ≡ size (model c.args.survey) = c.in_ok-profiles.ensures.len ∙ c.cells.ensures.value in
     let long : length c.tally.new.profiles ≡ c.in_ok-profiles.profiles.len = c.tally.ensures.long ∙ c.deref_mut.ensures.len in
-    (len, ((λ d z below. refilled_at c.tally.new.profiles _ _ d z long below ∙ c.tally.ensures.here d (omega (arith, len))), tt))
+    record {
+      each = len;
+      known = λ d z below. refilled_at c.tally.new.profiles _ _ d z long below ∙ c.tally.ensures.here d (omega (arith, len));
+    }
