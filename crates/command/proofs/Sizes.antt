@@ -2,7 +2,7 @@
 use Rattle.std.proofs.Common.{◌≡◌, ℕ, ◌<◌, ◌≤◌, false, ◌&&◌, leb, List, length, vec_items, sym, ap, ◌∙◌, arith}
 use Rattle.std.proofs.lemmas.List.{length-map}
 use Rattle.std.proofs.lemmas.Bool.Decides.{nat_tests}
-use Rattle.survey.specs.Model.{turnovers_of, model}
+use Rattle.survey.specs.Model.{model}
 use Rattle.survey.specs.declared.checked.Survey.{Survey}
 use Rattle.survey.specs.declared.workshop.Workshop.{Workshop}
 

@@ -1,10 +1,6 @@
 -- One word of a call, and one word more.
-use Rattle.std.proofs.Common.{◌≡◌, ℕ, suc, ◌+◌, ◌<◌, ◌≤◌, Bool, true, false, eqb, List, [], ◌∷◌, map, length, get_or, Some, None, codes, Decides, Option, sym, refl, ap, ◌∙◌, subst, arith}
-use Rattle.std.proofs.lemmas.Slice.Eq.{bytes_eq-Decides}
+use Rattle.std.proofs.Common.{◌≡◌, ℕ, suc, ◌+◌, ◌<◌, Bool, false, eqb, List, [], ◌∷◌, map, length, get_or, Some, None, Option, sym, refl, ap, ◌∙◌, arith}
 use Rattle.std.proofs.lemmas.List.{length-map, get_or-map}
-use Rattle.std.proofs.lemmas.Bool.Decides.{same_from_decides}
-use Rattle.std.specs.Str.{bytes_eq}
-use Rattle.survey.specs.Survey.{pick}
 use Rattle.command.specs.Call.{word_of, request_up_to, request_of, Within, Placed, run_after, request_after}
 use Rattle.command.specs.declared.call.Word.{Word}
 use Rattle.command.specs.declared.call.Word.TheVariants.{AskHelp, AskFull, Unknown, Name}
@@ -16,15 +12,7 @@ pub no_dash : (text : List ℕ) → length text ≡ 0 → false ≡ eqb (get_or 
 no_dash [] h = refl
 no_dash (b ∷ rest) h = absurd (omega (arith, h))
 
--- a word that is neither option
-pub no_option : (text : List ℕ) (dash : Bool) → Decides false (text ≡ codes "--help") → Decides false (text ≡ codes "--full") →
-    dash ≡ eqb (get_or text 0 0) 45 → pick dash Unknown Name ≡ word_of text
-no_option text dash not_help not_full e =
-    let d = eqb (get_or text 0 0) 45 in
-    ap (λ (b : Bool). pick b Unknown Name) e
-    ∙ ap (λ (b : Bool). pick b AskFull (pick d Unknown Name)) (same_from_decides false _ not_full (bytes_eq-Decides text (codes "--full")))
-    ∙ ap (λ (b : Bool). pick b AskHelp (pick (bytes_eq text (codes "--full")) AskFull (pick d Unknown Name))) (same_from_decides false _ not-help (bytes_eq-Decides text (codes "--help")))
-
+-- a place among n words is one among n + 1
 within_more : (n : ℕ) (file : Option ℕ) → Within n file → Within (n + 1) file
 within_more n None h = tt
 within_more n (Some place) h = omega arith

@@ -39,7 +39,7 @@ fn reach_rows(
     requires long { size (model table.now.survey) ≤ length pattern.now }
     requires soon { round < 40 }
     requires fresh { any_below (λ i. nat_eq (get_or row_round.old i 0) (round + 1)) (model table.now.survey).rows ≡ false }
-    ensures* spread { λ r. ⌜ Spread (λ k r. takes_part (model table.now.survey) pattern.now cell (r * (model table.now.survey).columns + k)) (λ k. nat_eq (get_or column_round.now k 0) round) (model table.now.survey).columns (model table.now.survey).rows (round + 1) row_round.old row_parent.old row_round.new row_parent.new ⌝ }
+    ensures spread { Spread (λ k r. takes_part (model table.now.survey) pattern.now cell (r * (model table.now.survey).columns + k)) (λ k. nat_eq (get_or column_round.now k 0) round) (model table.now.survey).columns (model table.now.survey).rows (round + 1) row_round.old row_parent.old row_round.new row_parent.new }
     ensures more { result ≡ any_below (λ i. nat_eq (get_or row_round.new i 0) (round + 1)) (model table.now.survey).rows }
 {
     let rows = table.survey().rows();

@@ -1,8 +1,7 @@
 -- One byte is looked at, and the rest decides where it is 0 or 1.
-use Rattle.std.proofs.Common.{◌≡◌, ℕ, ◌+◌, ◌<◌, true, false, leb, List, length, get_or, drop, Some, Option, sym, ap, ◌∙◌, arith}
+use Rattle.std.proofs.Common.{◌≡◌, ℕ, ◌+◌, ◌<◌, true, false, leb, List, length, get_or, drop, sym, ap, ◌∙◌, arith}
 use Rattle.std.proofs.lemmas.List.{at_drop_more, at_drop_all}
 use Rattle.survey.specs.Format.{unless}
-use Rattle.survey.specs.declared.refusal.Refusal.{Refusal}
 use Rattle.survey.specs.declared.refusal.Refusal.TheVariants.{Pattern}
 use Rattle.pattern.specs.Blanks.{first_odd}
 use Rattle.pattern.proofs.blanks.first_odd_byte.Goals as goal
