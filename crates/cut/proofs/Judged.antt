@@ -4,7 +4,7 @@ use Rattle.std.proofs.lemmas.List.FromFn.{length-map-range_with_len}
 use Rattle.std.proofs.lemmas.List.{get_or_past}
 use Rattle.std.proofs.lemmas.Bool.{both_ways, cases_lt, cases_Bool}
 use Rattle.survey.specs.Survey.{pick}
-use Rattle.survey.specs.Page.{Survey, Pattern, hidden, true_sum, need, Witness}
+use Rattle.survey.specs.Page.{Survey, Pattern, hidden, need}
 use Rattle.survey.specs.Model.{size}
 use Rattle.survey.specs.Promise.{shown, Audits, Bar, may_give, leaves}
 use Rattle.survey.proofs.Cells.{pick_eqb}

@@ -1,5 +1,5 @@
 -- What was lent for the call is given back whole.
-use Rattle.std.proofs.Common.{◌≡◌, ◌∙◌}
+use Rattle.std.proofs.Common.{◌∙◌}
 use Rattle.std.proofs.lemmas.List.{with_items_is}
 use Rattle.cut.proofs.scratch.Scratch.judge.Goals as goal
 
