@@ -1,10 +1,10 @@
 -- The state of the search while cells are made blank. Assumes nothing.
-use Rattle.std.proofs.Common.{◌≡◌, ℕ, ◌+◌, ◌*◌, ◌/◌, ◌%◌, ◌<◌, ◌≤◌, Bool, true, false, ◌≢◌, List, [], ◌∷◌, length, get_or, take, set, sym, refl, ap, ◌∙◌, subst, inl, inr, arith}
+use Rattle.std.proofs.Common.{◌≡◌, ℕ, ◌+◌, ◌*◌, ◌/◌, ◌%◌, ◌<◌, ◌≤◌, true, false, List, [], length, get_or, take, set, sym, ap, ◌∙◌, subst, inl, inr, arith}
 use Rattle.std.proofs.lemmas.List.{get_or-set_same, get_or-set_other, length-set, take_all}
-use Rattle.std.proofs.lemmas.Bool.{cases_eq, cases_lt, cases_Bool, both_ways}
+use Rattle.std.proofs.lemmas.Bool.{cases_eq, cases_lt}
 use Rattle.std.proofs.lemmas.Nat.{div-add-mod', div_below, mod_below}
 use Rattle.survey.specs.Model.{size}
-use Rattle.survey.specs.Page.{Survey, Pattern, hidden, need, true_sum, Witness, Protected}
+use Rattle.survey.specs.Page.{Survey, Pattern, hidden, true_sum, Witness, Protected}
 use Rattle.survey.specs.Promise.{all_hidden}
 use Rattle.survey.proofs.Witnesses.{witness_in, still_printed}
 use Rattle.search.specs.Lacking.{ListsLacking, Kept, KeptFrom}

@@ -1,11 +1,11 @@
 -- What goes with a pattern that is found and with a refusal. Assumes nothing.
-use Rattle.std.proofs.Common.{ℕ, ◌⊎◌, inl, inr}
+use Rattle.std.proofs.Common.{inl, inr}
 use Rattle.pattern.proofs.Guard.{guard}
 use Rattle.survey.specs.Page.{Survey, Pattern, Sound}
 use Rattle.survey.specs.Promise.{Guard}
 use Rattle.survey.specs.Promise.Outcome.{cannot}
 use Rattle.survey.specs.declared.refusal.Refusal.{Refusal}
-use Rattle.search.specs.Outcomes.{Found, NoPage, Stops, Failed}
+use Rattle.search.specs.Outcomes.{Found, Stops, Failed}
 use Rattle.search.specs.Search.{Finds, Searched, SearchedRight}
 use Rattle.search.proofs.Right.{finds_protected, finds_none_in_vain, searched_right}
 

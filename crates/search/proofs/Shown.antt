@@ -1,16 +1,16 @@
 -- A witness that is shown is kept by the cells that it changes. Assumes nothing.
-use Rattle.std.proofs.Common.{◌≡◌, ℕ, ◌+◌, ◌*◌, ◌<◌, ◌≤◌, Bool, true, false, not, eqb, List, length, get_or, Ok, sym, refl, ap, ◌∙◌, subst, inl, inr, arith}
+use Rattle.std.proofs.Common.{◌≡◌, ℕ, ◌+◌, ◌*◌, ◌<◌, List, get_or, Ok, sym, ◌∙◌, subst, arith}
 use Rattle.std.proofs.lemmas.Nat.{mul-add-lt}
 use Rattle.std.proofs.lemmas.Bool.{eqb-true, not-false}
 use Rattle.survey.specs.Model.{size}
-use Rattle.survey.specs.Page.{Survey, Pattern, Witness, true_sum}
+use Rattle.survey.specs.Page.{Survey, Pattern}
 use Rattle.survey.specs.Promise.{Audits}
 use Rattle.cut.specs.Finding.{Shows, Bars, Finds}
 use Rattle.cut.specs.declared.finding.Finding.{Finding}
 use Rattle.cut.specs.declared.finding.Finding.TheVariants.{Shown, Barred}
 use Rattle.cut.specs.declared.finding.Cut.{Cut}
 use Rattle.search.specs.Lacking.{Kept}
-use Rattle.search.specs.Moves.{MovesOf, differs}
+use Rattle.search.specs.Moves.{MovesOf}
 use Rattle.search.specs.declared.moves.Moves.{Moves}
 
 module _ (s : Survey) (h : Pattern) (c : ℕ) (sums falls rises witness sums' falls' rises' witness' : List ℕ) (f : Finding)

@@ -1,11 +1,10 @@
 -- The cells in order by a sort: entries of a sum and a cell are gathered for the cells that lack nothing, and sorted by
 -- sum and then by cell.
-use Rattle.std.proofs.Common.{◌≡◌, ℕ, ◌+◌, ◌<◌, ◌≤◌, false, cond, eqb, ◌⊎◌, List, [], ◌∷◌, ◌++◌, map, length, get_or, count_by, Ordering, Less, Greater, sym, refl, ap, ◌∙◌, subst, inl, inr, arith}
-use Rattle.std.specs.Ordering.{is_lt}
-use Rattle.std.specs.Cmp.Derive.{on, fields}
+use Rattle.std.proofs.Common.{◌≡◌, ℕ, ◌+◌, ◌<◌, ◌≤◌, true, false, cond, eqb, ◌⊎◌, List, [], ◌∷◌, ◌++◌, map, length, get_or, count_by, Ordering, Less, Equal, sym, refl, ap, ◌∙◌, subst, inl, inr, arith}
+use Rattle.std.specs.Ordering.{is_lt, nat_cmp, ordering_then}
 use Rattle.std.specs.List.{ContainsAt as Has, AllByRecursion as All}
 use Rattle.std.specs.List.Sorted.{IsPermutation, IsSortedWithin}
-use Rattle.std.specs.Cmp.{nat_cmp_total}
+use Rattle.std.specs.Cmp.{nat_cmp_is}
 use Rattle.std.proofs.lemmas.Bool.{cases_eq, cases_lt, cases_order, both_ways, eq-eqb, ne_eqb, cond-true, cond-false}
 use Rattle.std.proofs.lemmas.List.{length-map, get_or-map}
 use Rattle.std.proofs.ByRecursion.{All-get_or, All-push, All-weaker, All-map, all-has, has_push, has_append_left, all_shuffled, has_shuffled}
@@ -85,21 +84,28 @@ module _ {X : Type 0} (s : Survey) (sum cell : X → ℕ) where
 
   -- by sum and then by cell
   abbrev pub by_sum : X → X → Ordering
-  by_sum = (on (λ p. (sum p, cell p)) (fields nat_cmp_total nat_cmp_total)).cmp
+  by_sum p q = ordering_then (nat_cmp (sum p) (sum q)) (nat_cmp (cell p) (cell q))
+
+  -- an entry with a smaller sum is less
+  less_sum : (p q : X) → sum q < sum p → is_lt (by_sum q p) ≡ true
+  less_sum p q l = ap (λ o. is_lt (ordering_then o (nat_cmp (cell q) (cell p)))) (sym (nat_cmp_is (sum q) (sum p) Less l))
+
+  -- and of equal sums one with a smaller cell
+  less_cell : (p q : X) → sum p ≡ sum q → cell q < cell p → is_lt (by_sum q p) ≡ true
+  less_cell p q same l =
+      ap (λ o. is_lt (ordering_then o (nat_cmp (cell q) (cell p)))) (sym (nat_cmp_is (sum q) (sum p) Equal (sym same)))
+      ∙ ap is_lt (sym (nat_cmp_is (cell q) (cell p) Less l))
 
   -- one entry does not come after the next: its sum is smaller, or the sums are equal and its cell is no larger
   not_after : (p q : X) → is_lt (by_sum q p) ≡ false → (sum p < sum q) ⊎ ((sum p ≡ sum q) × (cell p ≤ cell q))
   not_after p q e = elim (cases_order (sum p) (sum q)) [
     | inl same ↦ elim (cases_lt (cell q) (cell p)) [
-      | inl l ↦ absurd (both_ways _ e (sym (ap is_lt (less (inr (inr (sym same, l)))))))
+      | inl l ↦ absurd (both_ways _ e (less_cell p q same l))
       | inr l ↦ inr (same, l)
     ]
     | inr (inl l) ↦ inl l
-    | inr (inr l) ↦ absurd (both_ways _ e (sym (ap is_lt (less (inl (l, refl))))))
+    | inr (inr l) ↦ absurd (both_ways _ e (less_sum p q l))
   ]
-    where
-      less : ((sum q < sum p) × (Less ≡ Less)) ⊎ (((sum p < sum q) × (Less ≡ Greater)) ⊎ ((sum q ≡ sum p) × (cell q < cell p))) → Less ≡ by_sum q p
-      less h = (fields nat_cmp_total nat_cmp_total).says (sum q, cell q) (sum p, cell p) Less h
 
   -- an entry of some
   some_entry : (qs : List X) → 0 < length qs → X

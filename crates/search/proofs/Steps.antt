@@ -1,5 +1,5 @@
 -- Cells printed again one after another, as a program goes.
-use Rattle.std.proofs.Common.{◌≡◌, ℕ, ◌+◌, false, List, get_or, set, sym, ◌∙◌, subst, add-one, arith}
+use Rattle.std.proofs.Common.{◌≡◌, ℕ, ◌+◌, false, List, get_or, set, sym, ◌∙◌, subst, add-one}
 use Rattle.survey.specs.Page.{Survey, Pattern, Protected}
 use Rattle.search.specs.Search.{PrintedBack}
 use Rattle.search.specs.Search.PrintedBack.{done, prints, keeps}

@@ -1,5 +1,5 @@
 -- The cells that lack something, listed, and the witnesses that are kept of them. Assumes nothing: these are definitions.
-use Rattle.std.specs.Prelude.{◌≡◌, ℕ, ◌+◌, ◌*◌, ◌<◌, ◌≤◌, false, List, [], length, vec_len, slice_index, slice_index_or}
+use Rattle.std.specs.Prelude.{◌≡◌, ℕ, ◌+◌, ◌*◌, ◌<◌, ◌≤◌, false, List, length, vec_len, slice_index, slice_index_or}
 use Rattle.survey.specs.Page.{Survey, Pattern, need, true_sum, Witness}
 use Rattle.search.specs.Moves.{bit_of, no_moves}
 use Rattle.search.specs.declared.moves.Moves.{Moves}

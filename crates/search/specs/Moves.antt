@@ -1,5 +1,5 @@
 -- The cells that a witness changes, kept as bits. Assumes nothing: these are definitions.
-use Rattle.std.specs.Prelude.{◌≡◌, ℕ, ◌+◌, ◌*◌, ◌/◌, ◌%◌, ◌^◌, ◌<◌, Bool, not, List, [], length, ◌==◌, slice_index}
+use Rattle.std.specs.Prelude.{◌≡◌, ℕ, ◌+◌, ◌*◌, ◌/◌, ◌%◌, ◌^◌, ◌<◌, Bool, not, List, [], ◌==◌, slice_index}
 use Rattle.search.specs.declared.moves.Moves.{Moves}
 
 -- bit k of a number

@@ -1,5 +1,5 @@
 -- What the search's call promises: of a page, of a refusal, and of the memory lent. Assumes nothing: these are definitions.
-use Rattle.std.specs.Prelude.{◌≡◌, ℕ, ◌<◌, ◌≤◌, Bool, true, false, ◌⊎◌, List, length, get_or, Ok, Err, Result}
+use Rattle.std.specs.Prelude.{◌≡◌, ℕ, ◌<◌, ◌≤◌, Bool, false, ◌⊎◌, List, length, Ok, Err, Result}
 use Rattle.survey.specs.Lending.{Written}
 use Rattle.survey.specs.Model.{size}
 use Rattle.survey.specs.Page.{Survey, Pattern, hidden, Safe, Protected}

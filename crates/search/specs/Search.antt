@@ -1,5 +1,5 @@
 -- The rule by which a survey's pattern of blanks is found, or the survey refused. Assumes nothing: these are definitions.
-use Rattle.std.specs.Prelude.{◌≡◌, ℕ, suc, ◌+◌, ◌*◌, ◌<◌, ◌≤◌, Bool, false, ◌||◌, ◌≢◌, ◌⊎◌, List, [], ◌∷◌, map, length, take, ◌==◌, nat_lt, slice_index, slice_set}
+use Rattle.std.specs.Prelude.{◌≡◌, ℕ, suc, ◌+◌, ◌<◌, ◌≤◌, Bool, false, ◌||◌, ◌≢◌, ◌⊎◌, List, [], ◌∷◌, map, length, take, ◌==◌, nat_lt, slice_index, slice_set}
 use Rattle.std.specs.List.{range_with_len, ContainsAt as Has}
 use Rattle.survey.specs.Model.{size}
 use Rattle.survey.specs.Page.{Survey, Pattern, Sound, Open, true_sum, need, Witness, Protected}

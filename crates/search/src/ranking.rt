@@ -27,6 +27,7 @@ pub(crate) fn in_order(heap: Global, table: &Table) -> Result<Vec<Ranked>, Alloc
             })?;
         }
     }
-    order.sort();
+    // no two entries are equal, so that a sort in place gives the same
+    order.sort_unstable();
     Ok(order)
 }

@@ -1,8 +1,7 @@
 -- Each cell is added or passed over by what it lacks.
-use Rattle.std.proofs.Common.{◌≡◌, ℕ, ◌+◌, ◌<◌, List, [], ◌∷◌, ◌++◌, vec_items, sym, refl, ap, ◌∙◌, subst, arith}
+use Rattle.std.proofs.Common.{◌≡◌, ℕ, ◌+◌, List, [], ◌∷◌, ◌++◌, vec_items, sym, refl, ap, ◌∙◌, subst, arith}
 use Rattle.std.proofs.lemmas.Slice.{pushed}
 use Rattle.survey.specs.Model.{model, size}
-use Rattle.survey.specs.Page.{need}
 use Rattle.search.specs.Lacking.{ListsLacking}
 use Rattle.search.proofs.Listing.{lists_none, lists_skip, lists_push}
 use Rattle.search.proofs.lacking.lacking_cells.Goals as goal

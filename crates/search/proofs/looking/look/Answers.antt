@@ -1,8 +1,8 @@
 -- What is found of the cell: a witness, or a cut that shows that there is none.
-use Rattle.std.proofs.Common.{◌≡◌, ℕ, List, sym, refl, ap, ◌∙◌, subst, arith}
+use Rattle.std.proofs.Common.{◌≡◌, ℕ, List, ap, ◌∙◌, subst}
 use Rattle.std.proofs.lemmas.List.{with_items_is}
 use Rattle.survey.proofs.Facts.{model_sound}
-use Rattle.survey.specs.Model.{model, size}
+use Rattle.survey.specs.Model.{model}
 use Rattle.search.specs.Moves.{MovesOf}
 use Rattle.cut.proofs.BarLaw.{barred_none}
 use Rattle.search.proofs.Shown.{finds_shows, finds_bars, kept_shown}

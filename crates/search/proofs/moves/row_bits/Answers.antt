@@ -1,5 +1,5 @@
 -- One column more, at the low end.
-use Rattle.std.proofs.Common.{◌≡◌, ℕ, ◌+◌, ◌-◌, sym, refl, subst, arith}
+use Rattle.std.proofs.Common.{◌≡◌, ℕ, ◌+◌, ◌-◌, subst, arith}
 use Rattle.search.specs.Moves.{differs}
 use Rattle.search.proofs.Bits.{BitsFrom, bits_more}
 use Rattle.search.proofs.moves.row_bits.Goals as goal

@@ -1,8 +1,6 @@
 -- Cells that lack nothing are gathered one after another, and sorted.
-use Rattle.std.proofs.Common.{◌≡◌, ℕ, ◌+◌, ◌<◌, List, [], ◌∷◌, ◌++◌, vec_items, vec_len, sym, refl, ap, ◌∙◌, subst, arith}
+use Rattle.std.proofs.Common.{◌≡◌, ℕ, ◌+◌, ◌<◌, List, [], ◌∷◌, ◌++◌, length, vec_items, vec_len, sym, refl, ap, ◌∙◌, subst, arith}
 use Rattle.std.proofs.lemmas.Slice.{pushed}
-use Rattle.std.specs.Cmp.Derive.{on, fields}
-use Rattle.std.specs.Cmp.{nat_cmp_total}
 use Rattle.survey.specs.Model.{model, size}
 use Rattle.survey.specs.Page.{need}
 use Rattle.search.specs.declared.ranking.Ranked.{Ranked}
@@ -40,8 +38,7 @@ returns c =
     let cell : Ranked → ℕ = λ (p : Ranked). p.cell in
     let all : c.loop-cell.cell ≡ size s = omega (arith, c.cells-cell-end.ensures.value, ap (λ t. size (model t)) c.survey.ensures) in
     let ps = vec_items c.loop-cell.order in (
-      sorted_in_order s sum cell (vec_len c.loop-cell.order) ps (vec_items c.sort.new.self) (subst (λ n. Gathered s sum cell n ps) all c.loop-cell.invariant.0)
-          c.sort.ensures.permutation (sym c.sort.new.self.ok.0 ∙ c.sort.ensures.len)
-          (c.sort.ensures.sorted (on (λ (p : Ranked). (p.sum, p.cell)) (fields nat_cmp_total nat_cmp_total))),
-      omega (arith, all, c.sort.ensures.len, c.loop-cell.invariant.1, c.cells-cell-end.ensures.bound),
+      sorted_in_order s sum cell (length (vec_items c.sort_unstable.new.self)) ps (vec_items c.sort_unstable.new.self) (subst (λ n. Gathered s sum cell n ps) all c.loop-cell.invariant.0)
+          c.sort_unstable.ensures.permutation refl c.sort_unstable.ensures.sorted,
+      omega (arith, all, c.sort_unstable.ensures.len, c.loop-cell.invariant.1, c.cells-cell-end.ensures.bound),
     )

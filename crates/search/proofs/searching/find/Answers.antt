@@ -1,5 +1,5 @@
 -- What was made is as the steps ask for it.
-use Rattle.std.proofs.Common.{◌≡◌, ℕ, Bool, true, false, List, map, sym, refl, ap, ◌∙◌, subst, inl, inr, arith}
+use Rattle.std.proofs.Common.{◌≡◌, ℕ, List, map, sym, ap, ◌∙◌, subst, arith}
 use Rattle.std.proofs.lemmas.List.{with_items_is}
 use Rattle.survey.specs.Model.{model, size}
 use Rattle.survey.specs.Page.{Pattern}

@@ -1,5 +1,5 @@
 -- What was found is copied, and what it promises goes with it.
-use Rattle.std.proofs.Common.{◌≡◌, ℕ, ◌≤◌, Bool, false, length, vec_items, sym, refl, ap, ◌∙◌, subst, inl, inr, arith}
+use Rattle.std.proofs.Common.{ℕ, ◌≤◌, false, length, vec_items, refl, ap, subst, inr, arith}
 use Rattle.survey.proofs.Facts.{model_sound}
 use Rattle.survey.specs.Lending.{Written}
 use Rattle.survey.specs.Model.{model, size}

@@ -1,5 +1,5 @@
 -- The steps of the rule, one after another.
-use Rattle.std.proofs.Common.{◌≡◌, ℕ, Bool, true, false, List, [], map, length, get_or, sym, refl, ap, ◌∙◌, subst, arith}
+use Rattle.std.proofs.Common.{map, length, ap, ◌∙◌, subst, arith}
 use Rattle.std.proofs.lemmas.List.{length-map}
 use Rattle.survey.specs.Model.{model, size}
 use Rattle.survey.specs.Page.{Pattern}

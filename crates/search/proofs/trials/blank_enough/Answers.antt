@@ -1,10 +1,9 @@
 -- A cell has a witness, which is kept, or another cell is made blank.
-use Rattle.std.proofs.Common.{◌≡◌, ℕ, ◌+◌, ◌<◌, ◌≤◌, List, map, length, get_or, sym, refl, ap, ◌∙◌, subst, arith}
+use Rattle.std.proofs.Common.{◌≡◌, ℕ, ◌<◌, List, map, length, get_or, sym, arith}
 use Rattle.std.proofs.ByRecursion.{has_get_or}
 use Rattle.std.proofs.lemmas.List.{length-map, get_or-map}
-use Rattle.survey.specs.Model.{model, size}
 use Rattle.search.specs.declared.ranking.Ranked.{Ranked}
-use Rattle.search.proofs.Blanking.{Blanking, blanking_none, blanking_long, blanking_blank, blanking_some, blanking_room, blanking_more, blanking_all}
+use Rattle.search.proofs.Blanking.{blanking_none, blanking_long, blanking_blank, blanking_some, blanking_room, blanking_more, blanking_all}
 use Rattle.search.proofs.trials.blank_enough.Goals as goal
 use Rattle.search.proofs.trials.blank_enough.Goals.{In-None}
 
@@ -28,20 +27,22 @@ pub loop-i-preserved-in-Some : goal.loop-i-preserved-in-Some
 loop-i-preserved-in-Some c =
     (c.look.ensures.room, blanking_some _ _ _ _ _ _ _ c.loop-i.invariant.1 c.requires.listed _ (omega arith) c.in-Some.ensures.found)
 
+-- as many cells as entries
+fewer : (ranked : List Ranked) (k : ℕ) → k < length (map (λ (p : Ranked). p.cell) ranked) → k < length ranked
+fewer ranked k l = omega (arith, length-map ranked (λ (p : Ranked). p.cell))
+
+pub offset_bounds-order-k : goal.offset_bounds-order-k
+offset_bounds-order-k c =
+    omega (arith, fewer c.args.order.now c.loop-i.k (blanking_room _ _ _ _ _ _ _ c.loop-i.invariant.1 c.requires.listed (omega arith) c.in-None.ensures.found c.requires.ordered c.requires.can), c.requires.few)
+
+pub bounds-order-k : goal.bounds-order-k
+bounds-order-k c =
+    fewer c.args.order.now c.loop-i.k (blanking_room _ _ _ _ _ _ _ c.loop-i.invariant.1 c.requires.listed (omega arith) c.in-None.ensures.found c.requires.ordered c.requires.can)
+
 -- there is another cell to make blank
 room : (c : In-None) → c.loop-i.k < length c.args.order.now
 room c =
-    omega (
-      arith,
-      length-map c.args.order.now (λ (p : Ranked). p.cell),
-      blanking_room _ _ _ _ _ _ _ c.loop-i.invariant.1 c.requires.listed (omega arith) c.in-None.ensures.found c.requires.ordered c.requires.can,
-    )
-
-pub offset_bounds-order-k : goal.offset_bounds-order-k
-offset_bounds-order-k c = omega (arith, room c, c.requires.few)
-
-pub bounds-order-k : goal.bounds-order-k
-bounds-order-k c = room c
+    fewer c.args.order.now c.loop-i.k (blanking_room _ _ _ _ _ _ _ c.loop-i.invariant.1 c.requires.listed (omega arith) c.in-None.ensures.found c.requires.ordered c.requires.can)
 
 -- the cell that is next
 next_cell : (c : In-None) → (get_or c.args.order.now c.loop-i.k (record { sum = 0; cell = 0 })).cell ≡ get_or (cells_in c.args.order.now) c.loop-i.k 0

@@ -1,5 +1,5 @@
 -- So many are blank and fewer were not enough; the cells before have witnesses.
-use Rattle.std.proofs.Common.{◌≡◌, ℕ, ◌+◌, ◌-◌, ◌<◌, ◌≤◌, map, length, take}
+use Rattle.std.proofs.Common.{◌+◌, ◌-◌, map, length}
 use Rattle.survey.specs.Model.{model, size}
 use Rattle.search.specs.declared.ranking.Ranked.{Ranked}
 use Rattle.search.proofs.Blanking.{Blanking}

@@ -1,5 +1,5 @@
 -- One cell more has a witness, or is the first that has none.
-use Rattle.std.proofs.Common.{◌≡◌, ℕ, ◌<◌, true, length, get_or, sym, refl, ap, ◌∙◌, subst, inl, inr, arith}
+use Rattle.std.proofs.Common.{◌≡◌, ℕ, true, length, get_or, sym, ap, subst, inl, inr, arith}
 use Rattle.std.proofs.lemmas.Bool.{cases_eq}
 use Rattle.survey.specs.Model.{model, size}
 use Rattle.survey.specs.Page.{hidden, Witness}

@@ -1,9 +1,9 @@
 -- A cell is printed, or kept.
-use Rattle.std.proofs.Common.{◌≡◌, ℕ, ◌+◌, ◌-◌, ◌<◌, ◌≤◌, Bool, true, false, List, map, length, get_or, set, MatchBool, sym, refl, ap, ◌∙◌, subst, arith}
+use Rattle.std.proofs.Common.{◌≡◌, ℕ, ◌-◌, ◌<◌, Bool, true, false, List, map, length, get_or, set, MatchBool, sym, ap, ◌∙◌, subst, arith}
 use Rattle.std.proofs.ByRecursion.{has_get_or}
-use Rattle.std.proofs.lemmas.List.{length-map, get_or-map, length-set}
+use Rattle.std.proofs.lemmas.List.{length-map, get_or-map}
 use Rattle.std.specs.List.{ContainsAt as Has}
-use Rattle.survey.specs.Model.{model, size}
+use Rattle.survey.specs.Model.{model}
 use Rattle.survey.specs.Page.{Survey, Pattern, Protected}
 use Rattle.search.specs.declared.ranking.Ranked.{Ranked}
 use Rattle.search.proofs.Steps.{ComeTo, come_first, come_prints, come_keeps, come_all}
