@@ -1,7 +1,7 @@
 -- Memory that a pattern's bytes were written to holds the pattern that they say. Assumes nothing.
-use Rattle.std.proofs.Common.{◌≡◌, ℕ, ◌<◌, Bool, true, false, eqb, List, map, length, get_or, Some, None, Option, sym, refl, ap, ◌∙◌, subst, inl, inr, arith}
+use Rattle.std.proofs.Common.{◌≡◌, ℕ, ◌<◌, Bool, true, false, eqb, List, length, None, Option, sym, refl, ◌∙◌, arith}
 use Rattle.std.proofs.lemmas.List.{ext_get_or, length-map, get_or-map}
-use Rattle.std.proofs.lemmas.Bool.{cases_Bool, eqb-true}
+use Rattle.std.proofs.lemmas.Bool.{eqb-true}
 use Rattle.pattern.specs.Blanks.{byte_blank, pattern_verdict}
 use Rattle.survey.specs.Format.{unless}
 use Rattle.survey.specs.Lending.{Written}

@@ -1,5 +1,5 @@
 -- What is published of the survey that was read is published of the bytes. Assumes nothing.
-use Rattle.std.proofs.Common.{◌≡◌, ℕ, Bool, true, List, Ok, Err, Result, String, sym, ap, ◌∙◌, subst, inl, inr}
+use Rattle.std.proofs.Common.{◌≡◌, ℕ, Bool, true, List, Ok, Err, Result, String, ap, ◌∙◌, subst, inr}
 use Rattle.command.specs.Limits.{serves}
 use Rattle.publication.specs.Publishing.{Publishes}
 use Rattle.survey.specs.Format.{decoded}

@@ -1,7 +1,7 @@
 -- What is found of one cell is judged, and what is judged of each cell is the audit's answer. Assumes nothing.
-use Rattle.std.proofs.Common.{◌≡◌, ℕ, ◌+◌, ◌<◌, ◌≤◌, Bool, true, false, List, length, get_or, Ok, refl, ap, ◌∙◌, arith}
+use Rattle.std.proofs.Common.{◌≡◌, ℕ, ◌+◌, ◌<◌, Bool, true, false, List, length, Ok, refl, ap, ◌∙◌, arith}
 use Rattle.survey.specs.Model.{size}
-use Rattle.survey.specs.Page.{Survey, Pattern, Sound, hidden, need, Witness, Protected}
+use Rattle.survey.specs.Page.{Survey, Pattern, Sound, hidden, need, Protected}
 use Rattle.survey.specs.Promise.{Audits}
 use Rattle.cut.proofs.BarLaw.{barred_none}
 use Rattle.cut.specs.Finding.{Finds}
@@ -9,7 +9,7 @@ use Rattle.search.proofs.Deciding.{Served, served_more}
 use Rattle.cut.specs.declared.finding.Cut.{Cut}
 use Rattle.cut.specs.declared.finding.Finding.{Finding}
 use Rattle.cut.specs.declared.finding.Finding.TheVariants.{Shown, Barred, Printed}
-use Rattle.publication.specs.Audit.{protected, printed, barred, FirstOpen, Forty, Audited, PrintedOpen}
+use Rattle.publication.specs.Audit.{protected, printed, barred, Audited, PrintedOpen}
 use Rattle.publication.specs.Auditing.{Judged}
 use Rattle.publication.proofs.OneAnswer.{printed_open}
 

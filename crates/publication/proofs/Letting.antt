@@ -1,5 +1,5 @@
 -- A page whose text is written with the pattern that was found is let out. Assumes nothing.
-use Rattle.std.proofs.Common.{◌≡◌, ℕ, ◌≤◌, false, List, length, Ok, Err, Result, String, sym, refl, ap, ◌∙◌, subst, inl, inr, arith}
+use Rattle.std.proofs.Common.{◌≡◌, false, length, Ok, Err, Result, String, sym, ap, ◌∙◌, inl, inr, arith}
 use Rattle.std.proofs.lemmas.List.{ext_get_or}
 use Rattle.survey.specs.Lending.{Written}
 use Rattle.survey.specs.Model.{size}
@@ -7,7 +7,7 @@ use Rattle.survey.specs.Page.{Survey, Pattern, Sound, hidden}
 use Rattle.survey.specs.declared.refusal.Refusal.{Refusal}
 use Rattle.search.proofs.Right.{finds_long}
 use Rattle.search.specs.Outcomes.{Found}
-use Rattle.publication.specs.Publishing.{LetOut, Publishes}
+use Rattle.publication.specs.Publishing.{Publishes}
 use Rattle.publication.specs.Text.{page_text}
 use Rattle.publication.specs.Worlds.{SameText}
 use Rattle.publication.specs.Written.{Published}

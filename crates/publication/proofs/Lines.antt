@@ -1,5 +1,5 @@
 -- The lines that are printed of the auditor's answer, piece by piece.
-use Rattle.std.proofs.Common.{◌≡◌, ℕ, suc, ◌+◌, Bool, false, List, [], ◌∷◌, ◌++◌, length, get_or, codes, decimal, sym, refl, ap, ◌∙◌, append_assoc, add-one}
+use Rattle.std.proofs.Common.{◌≡◌, ℕ, ◌+◌, Bool, false, List, [], ◌++◌, length, get_or, codes, decimal, refl, ap, ◌∙◌, append_assoc, add-one}
 use Rattle.publication.specs.Audit.{barred, marked, numbered, audit_line}
 use Rattle.publication.proofs.Steps.{one_more}
 

@@ -1,15 +1,14 @@
 -- An audit has one answer at most, and its rows and columns are a bar.
-use Rattle.std.proofs.Common.{◌≡◌, ℕ, ◌+◌, ◌<◌, ◌≤◌, Bool, true, false, ◌⊎◌, List, length, get_or, sym, refl, ap, ◌∙◌, subst, inl, inr, arith}
+use Rattle.std.proofs.Common.{◌≡◌, ℕ, ◌<◌, Bool, true, false, List, get_or, sym, refl, ap, ◌∙◌, subst, inl, inr, arith}
 use Rattle.std.proofs.lemmas.List.{ext_get_or}
 use Rattle.std.proofs.lemmas.Bool.{cases_eq, cases_lt, both_ways}
-use Rattle.survey.specs.Model.{size}
-use Rattle.survey.specs.Page.{Survey, Pattern, Sound, hidden, need, true_sum, Witness, Protected}
+use Rattle.survey.specs.Page.{Survey, Pattern, hidden, Protected}
 use Rattle.survey.specs.Promise.{OneOrOther}
 use Rattle.cut.specs.Least.{LeastCut}
 use Rattle.cut.proofs.BarLaw.{bar_closed, closed_bar}
 use Rattle.cut.proofs.Least.{least_rows, least_columns}
 use Rattle.cut.proofs.OneOrOther.{one_or_other}
-use Rattle.publication.specs.Audit.{Answer, protected, printed, barred, FirstOpen, Forty, Audited, OneAnswer, PrintedOpen, BarredByBar}
+use Rattle.publication.specs.Audit.{protected, printed, barred, FirstOpen, Forty, Audited, OneAnswer, PrintedOpen, BarredByBar}
 
 -- a witness has the printed cell's own sum, and would have to have more
 pub printed_open : PrintedOpen

@@ -1,11 +1,11 @@
 -- The text is made of the sums and the printed cells alone.
-use Rattle.std.proofs.Common.{◌≡◌, ℕ, zero, suc, ◌+◌, ◌*◌, ◌<◌, Bool, true, false, ◌≢◌, List, [], ◌∷◌, ◌++◌, length, get_or, decimal, sym, refl, ap, ◌∙◌}
-use Rattle.survey.specs.Page.{Survey, Pattern, hidden, true_sum, span, Sound, Agrees, Open, Safe}
+use Rattle.std.proofs.Common.{◌≡◌, ℕ, zero, suc, ◌+◌, ◌*◌, Bool, true, false, List, decimal, sym, refl, ap, ◌∙◌}
+use Rattle.survey.specs.Page.{Survey, Pattern, hidden, Sound, Agrees, Open, Safe}
 use Rattle.survey.specs.Promise.{AddsUp}
-use Rattle.survey.specs.Survey.{row_sum, column_sum, sum_of_all}
+use Rattle.survey.specs.Survey.{row_sum, sum_of_all}
 use Rattle.survey.proofs.Spans.{span_cong}
 use Rattle.survey.proofs.Totals.{adds_up}
-use Rattle.publication.specs.Text.{spaced, ended, entry, row_text, row_line, row_lines, column_text, sums_line, page_text}
+use Rattle.publication.specs.Text.{entry, row_text, row_line, row_lines, column_text, sums_line, page_text}
 use Rattle.publication.specs.Worlds.{with_values, OpenText, SafeText, SameText}
 use Rattle.publication.proofs.Steps.{entry_blank, entry_printed}
 

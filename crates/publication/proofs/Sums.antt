@@ -1,8 +1,8 @@
 -- The sum of a cell is small, and rows and columns are added up cell by cell.
-use Rattle.std.proofs.Common.{◌≡◌, ℕ, suc, ◌+◌, ◌*◌, ◌^◌, ◌<◌, ◌≤◌, List, [], ◌∷◌, length, get_or, sym, refl, ap, ◌∙◌, add-one, arith}
+use Rattle.std.proofs.Common.{◌≡◌, ℕ, ◌+◌, ◌*◌, ◌^◌, ◌<◌, ◌≤◌, sym, ap, ◌∙◌, add-one, arith}
 use Rattle.survey.specs.Model.{model}
 use Rattle.survey.specs.Page.{span, true_sum}
-use Rattle.survey.specs.Survey.{sum_at, row_sum, column_sum}
+use Rattle.survey.specs.Survey.{row_sum, column_sum}
 use Rattle.survey.specs.declared.checked.Survey.{Survey}
 use Rattle.sensitivity.specs.Profiles.{profile_of}
 use Rattle.sensitivity.specs.declared.profile.Profile.{Profile}

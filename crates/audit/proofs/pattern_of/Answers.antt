@@ -1,5 +1,5 @@
 -- The memory is just as long as the table has cells.
-use Rattle.std.proofs.Common.{◌≡◌, ℕ, length, None, sym, refl, ap, ◌∙◌, subst}
+use Rattle.std.proofs.Common.{◌≡◌, ℕ, length, None, ◌∙◌, subst}
 use Rattle.std.proofs.lemmas.List.{with_items_is}
 use Rattle.pattern.specs.Blanks.{pattern_verdict}
 use Rattle.survey.specs.Model.{model, size}

@@ -1,5 +1,5 @@
 -- One cell more has a witness, or is the first that has none.
-use Rattle.std.proofs.Common.{◌≡◌, sym, ap, ◌∙◌, subst, arith}
+use Rattle.std.proofs.Common.{ap, subst, arith}
 use Rattle.survey.specs.Model.{model, size}
 use Rattle.cut.specs.declared.finding.Finding.{Finding}
 use Rattle.publication.specs.Auditing.{Judged}

@@ -1,5 +1,5 @@
 -- A cell that lacks nothing, and what is found of one that lacks something.
-use Rattle.std.proofs.Common.{◌≡◌, ◌∙◌, arith}
+use Rattle.std.proofs.Common.{arith}
 use Rattle.survey.proofs.Facts.{model_sound}
 use Rattle.survey.specs.Model.{model}
 use Rattle.publication.proofs.Auditing.{judged, judged_nothing}

@@ -1,5 +1,5 @@
 -- The pattern that was found is the one that the text is written with.
-use Rattle.std.proofs.Common.{◌≡◌, sym, refl, ap, ◌∙◌, subst}
+use Rattle.std.proofs.Common.{ap, ◌∙◌}
 use Rattle.std.proofs.lemmas.List.{with_items_is}
 use Rattle.survey.proofs.Facts.{model_sound}
 use Rattle.survey.specs.Model.{model, size}

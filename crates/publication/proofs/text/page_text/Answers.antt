@@ -1,4 +1,4 @@
-use Rattle.std.proofs.Common.{◌≡◌, ap, ◌∙◌, arith}
+use Rattle.std.proofs.Common.{ap, ◌∙◌, arith}
 use Rattle.survey.specs.Model.{model, size}
 use Rattle.survey.specs.declared.checked.Survey.{Survey}
 use Rattle.publication.proofs.Steps.{whole_page}

@@ -1,4 +1,4 @@
-use Rattle.std.proofs.Common.{◌≡◌, ap, ◌∙◌}
+use Rattle.std.proofs.Common.{ap, ◌∙◌}
 use Rattle.survey.specs.Model.{model}
 use Rattle.survey.specs.Survey.{sum_of_all}
 use Rattle.survey.specs.declared.checked.Survey.{Survey}
