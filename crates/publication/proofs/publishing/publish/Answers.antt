@@ -11,7 +11,6 @@ returns-in-Ok c =
     let s = model c.args.table.now.survey in
     let made = c.in-Ok.ensures.1 in
     let wide = c.cells.ensures.value ∙ ap (λ t. size (model t)) c.survey.ensures in
-    let held = c.deref.ensures.value ∙ with_items_is c.in_ok-pattern.pattern c.search.new.pattern (c.search.auto.pattern ∙ c.deref_mut.ensures.len) in
-    publishes s made.0 c.deref.result.now c.page_text.result (model_sound c.args.table.now.survey) made.1
-    (held ∙ wrote_found s made.0 _ _ made.1 (c.deref_mut.ensures.len ∙ c.in_ok-pattern.ensures.len ∙ wide) made.2)
-    c.page_text.ensures
+    let held = with_items_is c.in_ok-pattern.pattern c.search.new.pattern (c.search.auto.pattern ∙ c.deref_mut.ensures.len) in
+    let wrote = wrote_found s made.0 _ _ made.1 (c.deref_mut.ensures.len ∙ c.in_ok-pattern.ensures.len ∙ wide) made.2 in
+    publishes s made.0 _ c.page_text.result (model_sound c.args.table.now.survey) made.1 (cc) c.page_text.ensures
