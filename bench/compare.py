@@ -3,7 +3,7 @@
 
     bench/compare.py [--seeds 5] [--runs 20]
 
-Each figure is the least processor time of so many runs on 40 x 40 cells with 19,000 workshops.
+The programs must have been built (tests/build.sh). Each figure is the least processor time of so many runs on 40 x 40 cells with 19,000 workshops.
 """
 import argparse
 import os
@@ -13,8 +13,9 @@ import sys
 import tempfile
 
 ROOT = pathlib.Path(__file__).resolve().parent.parent
-sys.path.insert(0, str(ROOT / "bench"))
+sys.path[:0] = [str(ROOT / "bench"), str(ROOT / "tests")]
 import generate  # noqa: E402
+from differential import program  # noqa: E402
 
 
 def run(command, path):
@@ -45,7 +46,7 @@ def main():
                 survey = generate.survey(seed, 40, 40, 19000, percent)
                 path = folder + "/survey"
                 pathlib.Path(path).write_bytes(survey)
-                ours = least([str(ROOT / "target" / "bin" / "page"), "--full"], path, args.runs)
+                ours = least([program("page"), "--full"], path, args.runs)
                 theirs = least([plain, "page"], path, args.runs)
                 if ours[0] != theirs[0]:
                     sys.exit(f"seed {seed}: the pages differ")
@@ -53,7 +54,7 @@ def main():
                 if b"-" in ours[0]:
                     blanks = [cell == b"-" for row in ours[0].splitlines()[:40] for cell in row.split()[:40]]
                     pathlib.Path(path).write_bytes(survey + bytes(blanks))
-                    ours = least([str(ROOT / "target" / "bin" / "audit"), "--full"], path, args.runs)
+                    ours = least([program("audit"), "--full"], path, args.runs)
                     theirs = least([plain, "audit"], path, args.runs)
                     if ours[0] != theirs[0]:
                         sys.exit(f"seed {seed}: the audits differ")

@@ -12,9 +12,9 @@ import tempfile
 
 ROOT = pathlib.Path(__file__).resolve().parent.parent
 sys.path.insert(0, str(ROOT / "bench"))
-from compare import least  # noqa: E402
+from compare import least, program  # noqa: E402
 
-AUDIT = [str(ROOT / "target" / "bin" / "audit"), "--full"]
+AUDIT = [program("audit"), "--full"]
 
 
 def table(rows, columns, sensitive):

@@ -1,10 +1,10 @@
 #!/usr/bin/env python3
 """Calls both programs as an officer would, rightly and wrongly, and holds what they print and how they end to the rule book.
 
-    tests/calls.py [--bin target/bin]
+    tests/calls.py [--bin FOLDER]
 
-No contract can say what a program reads, prints and ends with; this is where it is tested. Ends with status 1 at the first
-difference.
+No contract can say what a program reads, prints and ends with; this is where it is tested. The programs lie where tests/build.sh
+leaves them, or in the folder that is named. Ends with status 1 at the first difference.
 """
 import argparse
 import pathlib
@@ -14,7 +14,7 @@ import tempfile
 
 ROOT = pathlib.Path(__file__).resolve().parent.parent
 sys.path.insert(0, str(ROOT / "tests"))
-from differential import survey_bytes  # noqa: E402
+from differential import program as built, survey_bytes  # noqa: E402
 
 EXAMPLE = (ROOT / "examples" / "a.survey").read_bytes()
 PATTERN = (ROOT / "examples" / "a.pattern").read_bytes()
@@ -91,12 +91,13 @@ def cases(folder):
 
 def main():
     args = argparse.ArgumentParser()
-    args.add_argument("--bin", default=str(ROOT / "target" / "bin"))
+    args.add_argument("--bin", help="the folder of other builds of both programs")
     args = args.parse_args()
+    place = {name: f"{args.bin}/{name}" if args.bin else built(name) for name in ABOUT}
     count = 0
     with tempfile.TemporaryDirectory() as folder:
         for program, words, data, out, err, status in cases(folder):
-            done = subprocess.run([args.bin + "/" + program] + words, input=data, stdout=subprocess.PIPE, stderr=subprocess.PIPE)
+            done = subprocess.run([place[program]] + words, input=data, stdout=subprocess.PIPE, stderr=subprocess.PIPE)
             told = err is not None and done.stderr == err or err is None and done.stderr != b""
             if done.returncode != status or not told or (out is not None and done.stdout != out) or (out is None and not done.stdout):
                 sys.exit(f"{program} {words}: wanted {out!r}, {err!r}, {status}; got {done.stdout!r}, {done.stderr!r}, {done.returncode}")
@@ -104,7 +105,7 @@ def main():
     # nothing can be printed
     for program, data in (("page", EXAMPLE), ("audit", EXAMPLE + PATTERN), ("page", b"")):
         with open("/dev/full", "wb") as full:
-            done = subprocess.run([args.bin + "/" + program], input=data, stdout=full, stderr=subprocess.PIPE)
+            done = subprocess.run([place[program]], input=data, stdout=full, stderr=subprocess.PIPE)
         if done.returncode != 1:
             sys.exit(f"{program} into a full device: status {done.returncode}")
         count += 1

@@ -4,7 +4,7 @@
     tests/differential.py [--inputs 20000] [--large 40] [--seed 1]
 
 A tenth of the inputs are damaged. `--large` adds tables of up to 40 x 40 with up to 20,000 workshops. The programs must have
-been built (rt check page audit cells). Ends with status 1 and the first difference where there is one.
+been built (tests/build.sh). Ends with status 1 and the first difference where there is one.
 """
 import argparse
 import concurrent.futures
@@ -20,6 +20,11 @@ sys.path.insert(0, str(ROOT / "bench"))
 import generate  # noqa: E402
 
 PAGE, AUDIT, CELLS = 0, 1, 2
+
+
+def program(name):
+    """where a program lies once it is built"""
+    return str(ROOT / "crates" / name / "out" / name)
 
 
 def survey_bytes(rows, columns, percent, workshops):
@@ -108,7 +113,7 @@ def reference(binary, cases):
 
 def ours(case):
     mode, full, data = case
-    command = [str(ROOT / "target" / "bin" / ("page" if mode == PAGE else "audit"))] + (["--full"] if full else [])
+    command = [program("page" if mode == PAGE else "audit")] + (["--full"] if full else [])
     done = subprocess.run(command, input=data, stdout=subprocess.PIPE, stderr=subprocess.PIPE)
     return done.stdout, done.returncode
 
@@ -138,7 +143,7 @@ def main():
             kinds[kind] = kinds.get(kind, 0) + 1
         surveys = [survey_bytes(*small_survey(rng)) for _ in range(args.cells)]
         want = b"".join(text for text, _ in reference(binary, [(CELLS, 1, s) for s in surveys]))
-        got = subprocess.run([str(ROOT / "target" / "bin" / "cells")], input=b"".join(surveys), stdout=subprocess.PIPE).stdout
+        got = subprocess.run([program("cells")], input=b"".join(surveys), stdout=subprocess.PIPE).stdout
         if want != got:
             sys.exit("the cells of some survey differ")
     print(f"{len(cases)} inputs ({args.large} of them large) and the cells of {len(surveys)} surveys: no difference")

@@ -7,12 +7,13 @@ ghost use Rattle.audit.specs.Judges.{Judges, Blanked, Answers, ending};
 
 use command::limits::served;
 use command::parts::survey_part;
-use command::talk::{Stop, Usage, asked, told};
+use command::talk::{Stop, Usage, asked, status_of, told};
 use pattern::blanks::from_bytes;
 use publication::audit::{audit, audit_line};
 use publication::audited::Audit;
 use sensitivity::table::Table;
 use std::alloc::Global;
+use std::process::ExitCode;
 use survey::checked::Survey;
 use survey::reading::read;
 use survey::refusal::Refusal;
@@ -74,7 +75,8 @@ fn ended(answer: &Audit) -> Result<(), Stop>
     }
 }
 
-fn main(rt: HostRuntime) -> Result<(), Stop> {
+// What the program does, and why it stops where it does not end well.
+fn answered(rt: HostRuntime) -> Result<(), Stop> {
     let Some(task) = asked(&rt, USAGE)? else {
         return Ok(());
     };
@@ -86,4 +88,9 @@ fn main(rt: HostRuntime) -> Result<(), Stop> {
         }
         Err(refusal) => told(&rt, Err::<String, Refusal>(refusal), "\n"),
     }
+}
+
+// The status is all that is left to say: an error that `main` gave back would be printed.
+fn main(rt: HostRuntime) -> ExitCode {
+    status_of(answered(rt))
 }

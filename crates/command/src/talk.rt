@@ -1,5 +1,6 @@
 // What a program reads and what it tells. No contract can say what stands outside the program, so the work is elsewhere.
-ghost use Rattle.std.specs.Prelude.{◌≡◌, ◌<◌, length, IfSome, IfErr};
+ghost use Rattle.std.specs.Prelude.{◌≡◌, ◌<◌, length, IfSome, IfErr, MatchResult};
+ghost use Rattle.std.specs.Process.{exit_status};
 ghost use Rattle.command.specs.Talk.{Unread, Fulfils, Tells};
 ghost use Rattle.command.specs.declared.call.Request.TheVariants.{Run};
 ghost use Rattle.command.specs.declared.talk.Stop.TheVariants.{Call, Input, Output};
@@ -7,6 +8,7 @@ ghost use Rattle.command.specs.declared.talk.Stop.TheVariants.{Call, Input, Outp
 use crate::call::{Request, requested};
 use std::fmt::Display;
 use std::io::Read;
+use std::process::ExitCode;
 use std::{env, fmt, fs};
 use survey::refusal::Refusal;
 
@@ -161,5 +163,15 @@ pub fn told<T: Display + Drop>(
             let _ = println!(rt; "{refusal}");
             Err(Stop::Refused(refusal))
         }
+    }
+}
+
+// The status that a program ends with, 0 where it ends well. Why it stops has been told, so that no error is left to print.
+pub fn status_of(end: Result<(), Stop>) -> ExitCode
+    ensures { MatchResult end (λ _. exit_status result ≡ 0) (λ _. exit_status result ≡ 1) }
+{
+    match end {
+        Ok(()) => ExitCode::SUCCESS,
+        Err(_) => ExitCode::FAILURE,
     }
 }

@@ -4,10 +4,11 @@
 ghost use Rattle.page.specs.Pages.{Pages};
 
 use command::limits::admitted;
-use command::talk::{Stop, Usage, asked, told};
+use command::talk::{Stop, Usage, asked, status_of, told};
 use publication::publishing::publish;
 use sensitivity::table::Table;
 use std::alloc::Global;
+use std::process::ExitCode;
 use survey::refusal::Refusal;
 
 const USAGE: Usage = Usage {
@@ -29,7 +30,8 @@ fn page_of(heap: Global, bytes: &[u8], full: bool) -> Result<String, Refusal>
     }
 }
 
-fn main(rt: HostRuntime) -> Result<(), Stop> {
+// What the program does, and why it stops where it does not end well.
+fn answered(rt: HostRuntime) -> Result<(), Stop> {
     let Some(task) = asked(&rt, USAGE)? else {
         return Ok(());
     };
@@ -38,4 +40,9 @@ fn main(rt: HostRuntime) -> Result<(), Stop> {
         page_of(rt.alloc(), task.bytes.as_slice(), task.full),
         "",
     )
+}
+
+// The status is all that is left to say: an error that `main` gave back would be printed.
+fn main(rt: HostRuntime) -> ExitCode {
+    status_of(answered(rt))
 }
