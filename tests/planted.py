@@ -3,12 +3,12 @@
 
     tests/planted.py [--only survey,flow/last_parent] [--again] [--write docs/PLANTED.md]
 
-The bugs are planted in two copies of the repository, which must have been proved (rt check). Each is first tried on its own
-crate (rt dev). One that the crate is still proved with is then tried on everything: the crates above it, the programs' runs,
-the crates' tests (rt check), and, where all that passes, on tests/calls.py and tests/differential.py. Ends with status 1
-where a bug survives, where an edit does not fit the code, or where one is refused only because a name of the proof is gone,
-which shows nothing. It takes about half an hour on two cores; what was told of a bug before is kept under target/ and told
-again while neither the bug nor its crate has changed, unless --again is given.
+The bugs are planted in two copies of the repository. Each is first tried on its own crate (rt check). One that the crate is
+still proved with is then tried on everything: the crates above it, the programs' runs, the crates' tests (rt all test), and,
+where all that passes, on tests/calls.py and tests/differential.py. Ends with status 1 where a bug survives, where an edit
+does not fit the code, or where one is refused only because a name of the proof is gone, which shows nothing. It takes about
+half an hour on four cores; what was told of a bug before is kept under target/ and told again while neither the bug nor its
+crate has changed, unless --again is given.
 """
 import argparse
 import concurrent.futures
@@ -91,13 +91,13 @@ def bugs(only):
 
 
 def copy_to(repo):
-    """the repository as it stands, with what has been proved of it"""
+    """the repository as it stands; rt begins there with what it has proved of it here"""
     files = subprocess.run(["git", "ls-files", "-co", "--exclude-standard"], cwd=ROOT, stdout=subprocess.PIPE, check=True, text=True)
     for name in files.stdout.splitlines():
         if (ROOT / name).is_file():
             (repo / name).parent.mkdir(parents=True, exist_ok=True)
             shutil.copy2(ROOT / name, repo / name)
-    subprocess.run(["cp", "-a", "--reflink=auto", str(ROOT / "target"), str(repo / "target")], check=True)
+    (repo / ".git").mkdir()
 
 
 def first_error(log):
@@ -114,7 +114,7 @@ def try_proof(repo, bug):
     """a bug on its own crate: what caught it, None where the crate is still proved"""
     before = bug.plant(repo)
     try:
-        done = subprocess.run(["rt", "dev", bug.crate], cwd=repo, stdout=subprocess.PIPE, stderr=subprocess.STDOUT, text=True)
+        done = subprocess.run(["rt", "check"], cwd=repo / "crates" / bug.crate, stdout=subprocess.PIPE, stderr=subprocess.STDOUT, text=True)
     finally:
         for path, text in before.items():
             path.write_text(text)
@@ -146,13 +146,14 @@ def try_tests(repo, bug):
     """a bug that its crate is proved with: the crates above, the programs' runs and all tests"""
     before = bug.plant(repo)
     try:
-        done = subprocess.run(["rt", "check"], cwd=repo, stdout=subprocess.PIPE, stderr=subprocess.STDOUT, text=True)
-        said = [line for line in done.stdout.splitlines() if line.startswith("rt: ") and re.search(r"NOT PROVED|FAILED|wrote something else|failed", line)]
+        done = subprocess.run(["rt", "all", "test"], cwd=repo, stdout=subprocess.PIPE, stderr=subprocess.STDOUT, text=True)
         if done.returncode != 0:
-            kind = "proof above" if any("NOT PROVED" in line for line in said) else "test in the gate"
-            line = said[0][4:] if said else "rt check"
-            return kind, f"crates/{line.split()[0].rstrip(':,')}: {line}"
-        for command in (["tests/calls.py"], ["tests/differential.py", "--inputs", "2000", "--large", "10", "--cells", "1000"]):
+            if "logic=not-proved" in done.stdout:
+                return "proof above", "{}: {}".format(*first_error(done.stdout))
+            crate = re.search(r"^(\w+): failed", done.stdout, re.M)
+            said = re.search(r"^(test .* FAILED|.*the program's output differs.*)", done.stdout, re.M)
+            return "test in the gate", f"crates/{crate[1] if crate else '?'}: {said[1] if said else 'rt all test'}"
+        for command in (["tests/build.sh"], ["tests/calls.py"], ["tests/differential.py", "--inputs", "2000", "--large", "10", "--cells", "1000"]):
             done = subprocess.run(command, cwd=repo, stdout=subprocess.PIPE, stderr=subprocess.STDOUT, text=True)
             if done.returncode != 0:
                 return "test", command[0] + ": " + done.stdout.strip().splitlines()[-1]
