@@ -105,7 +105,7 @@ def first_error(log):
     for pattern in (r"^(\S+?):\d+:\d+: error: (.*(?:\n .*)*)", r"^note: (\S+?):\d+:\d+: (it is not proved .*)$"):
         match = re.search(pattern, log, re.M)
         if match:
-            place = re.sub(r"^.*/crates/[a-z]+/", "", match.group(1))
+            place = re.sub(r"^(.*/crates/[a-z]+|\.)/", "", match.group(1))
             return place, " ".join(match.group(2).split())
     return "", "it is not proved"
 
