@@ -5,7 +5,7 @@ use Rattle.command.specs.Parts.{survey_end, survey_bytes}
 use Rattle.pattern.specs.Blanks.{pattern_verdict}
 use Rattle.publication.specs.Audit.{Audited, answer}
 use Rattle.command.specs.declared.talk.Stop.{Stop}
-use Rattle.command.specs.declared.talk.Stop.TheVariants.{Open}
+use Rattle.command.specs.declared.talk.Stop.TheVariants.{Open, Output, Refused}
 use Rattle.publication.specs.declared.audited.Audit.{Audit}
 use Rattle.publication.specs.declared.audited.Audit.TheVariants.{Protected, Printed, Barred}
 use Rattle.survey.specs.Format.{decoded, verdict}
@@ -59,3 +59,11 @@ abbrev pub ending : Audit → Result (Unit {0}) Stop
 ending Protected = Ok tt
 ending (Printed cell) = Err Open
 ending (Barred cell cut) = Err Open
+
+-- it ends so once its answer is told, which may fail for want of output or of memory for the line; and it stops with the
+-- refusal that it has in place of an answer
+abbrev pub Ends : Result Audit Refusal → Result (Unit {0}) Stop → Type 0
+Ends (Ok a) (Ok _) = ending a ≡ Ok tt
+Ends (Ok a) (Err e) = (ending a ≡ Err e) ⊎ ((e ≡ Output) ⊎ (e ≡ Refused Memory))
+Ends (Err refusal) (Ok _) = ⊥
+Ends (Err refusal) (Err e) = e ≡ Refused refusal

@@ -3,7 +3,7 @@
 
 ghost use Rattle.std.specs.Prelude.{◌≡◌, ◌≤◌, length};
 ghost use Rattle.survey.specs.Model.{model, size};
-ghost use Rattle.audit.specs.Judges.{Judges, Blanked, Answers, ending};
+ghost use Rattle.audit.specs.Judges.{Judges, Blanked, Answers, ending, Ends};
 
 use command::limits::served;
 use command::parts::survey_part;
@@ -75,22 +75,24 @@ fn ended(answer: &Audit) -> Result<(), Stop>
     }
 }
 
-// What the program does, and why it stops where it does not end well.
-fn answered(rt: HostRuntime) -> Result<(), Stop> {
-    let Some(task) = asked(&rt, USAGE)? else {
-        return Ok(());
-    };
-    let heap = rt.alloc();
-    match audit_of(heap, task.bytes.as_slice(), task.full) {
+// Tells the answer, or why there is none, and gives how the program ends.
+fn said(rt: &HostRuntime, answer: Result<Audit, Refusal>) -> Result<(), Stop>
+    ensures { Ends answer result }
+{
+    match answer {
         Ok(answer) => {
-            told(&rt, audit_line(heap, &answer), "\n")?;
+            told(rt, audit_line(rt.alloc(), &answer), "\n")?;
             ended(&answer)
         }
-        Err(refusal) => told(&rt, Err::<String, Refusal>(refusal), "\n"),
+        Err(refusal) => told(rt, Err::<String, Refusal>(refusal), "\n"),
     }
 }
 
 // The status is all that is left to say: an error that `main` gave back would be printed.
 fn main(rt: HostRuntime) -> ExitCode {
-    status_of(answered(rt))
+    status_of(match asked(&rt, USAGE) {
+        Ok(Some(task)) => said(&rt, audit_of(rt.alloc(), task.bytes.as_slice(), task.full)),
+        Ok(None) => Ok(()),
+        Err(stop) => Err(stop),
+    })
 }

@@ -1,8 +1,7 @@
 // What a program reads and what it tells. No contract can say what stands outside the program, so the work is elsewhere.
 ghost use Rattle.std.specs.Prelude.{◌≡◌, ◌<◌, length, IfSome, IfErr, MatchResult};
 ghost use Rattle.std.specs.Process.{exit_status};
-ghost use Rattle.command.specs.Talk.{Unread, Fulfils, Tells};
-ghost use Rattle.command.specs.declared.call.Request.TheVariants.{Run};
+ghost use Rattle.command.specs.Talk.{Unread, Tells};
 ghost use Rattle.command.specs.declared.talk.Stop.TheVariants.{Call, Input, Output};
 
 use crate::call::{Request, requested};
@@ -108,22 +107,22 @@ fn wrong_call(rt: &HostRuntime, usage: Usage) -> Stop
     Stop::Call
 }
 
-// Reads what a call to work asks for: the file at that place among the words, or standard input.
-fn fulfilled(
+// What a call to work asks for: the bytes of the file at that place among the words, or of standard input.
+fn task_of(
     rt: &HostRuntime,
     words: &[String],
     full: bool,
     file: Option<usize>,
-) -> Result<Option<Task>, Stop>
+) -> Result<Task, Stop>
     requires { IfSome file (λ place. place < length words.now) }
-    ensures { Fulfils (Run full file) result }
+    ensures { MatchResult result (λ task. task.full ≡ full) (λ e. e ≡ Input) }
 {
     let read = match file {
         Some(place) => from_file(rt, words[place].as_str()),
         None => from_input(rt),
     };
     match read {
-        Ok(bytes) => Ok(Some(Task { full, bytes })),
+        Ok(bytes) => Ok(Task { full, bytes }),
         Err(stop) => Err(stop),
     }
 }
@@ -141,7 +140,10 @@ pub fn asked(rt: &HostRuntime, usage: Usage) -> Result<Option<Task>, Stop>
             Err(_) => Err(Stop::Output),
         },
         Request::Wrong => Err(wrong_call(rt, usage)),
-        Request::Run { full, file } => fulfilled(rt, words.as_slice(), full, file),
+        Request::Run { full, file } => match task_of(rt, words.as_slice(), full, file) {
+            Ok(task) => Ok(Some(task)),
+            Err(stop) => Err(stop),
+        },
     }
 }
 

@@ -1,6 +1,6 @@
 // The search for a way, round by round: from the raised cell's row to the columns in which a cell can fall, from these to
 // the rows in which a cell can rise, and so on until the raised cell's column is reached.
-ghost use Rattle.std.specs.Prelude.{◌≡◌, ℕ, ◌+◌, ◌*◌, ◌<◌, ◌≤◌, false, not, length, get_or, ◌==◌, nat_eq, slice_index, slice_index_or};
+ghost use Rattle.std.specs.Prelude.{◌≡◌, ℕ, ◌+◌, ◌*◌, ◌<◌, ◌≤◌, false, not, length, ◌==◌, nat_eq, slice_index, slice_index_or};
 ghost use Rattle.survey.specs.Model.{model, size};
 ghost use Rattle.flow.specs.Afoot.{Afoot};
 ghost use Rattle.flow.specs.Searching.{never, Spread, Searched};
@@ -38,9 +38,9 @@ fn reach_rows(
 ) -> bool
     requires long { size (model table.now.survey) ≤ length pattern.now }
     requires soon { round < 40 }
-    requires fresh { any_below (λ i. nat_eq (get_or row_round.old i 0) (round + 1)) (model table.now.survey).rows ≡ false }
-    ensures spread { Spread (λ k r. takes_part (model table.now.survey) pattern.now cell (r * (model table.now.survey).columns + k)) (λ k. nat_eq (get_or column_round.now k 0) round) (model table.now.survey).columns (model table.now.survey).rows (round + 1) row_round.old row_parent.old row_round.new row_parent.new }
-    ensures more { result ≡ any_below (λ i. nat_eq (get_or row_round.new i 0) (round + 1)) (model table.now.survey).rows }
+    requires fresh { any_below (λ i. nat_eq (slice_index row_round.old i) (round + 1)) (model table.now.survey).rows ≡ false }
+    ensures spread { Spread (λ k r. takes_part (model table.now.survey) pattern.now cell (r * (model table.now.survey).columns + k)) (λ k. nat_eq (slice_index column_round.now k) round) (model table.now.survey).columns (model table.now.survey).rows (round + 1) row_round.old row_parent.old row_round.new row_parent.new }
+    ensures more { result ≡ any_below (λ i. nat_eq (slice_index row_round.new i) (round + 1)) (model table.now.survey).rows }
 {
     let rows = table.survey().rows();
     let columns = table.survey().columns();

@@ -4,7 +4,7 @@
 ghost use Rattle.page.specs.Pages.{Pages};
 
 use command::limits::admitted;
-use command::talk::{Stop, Usage, asked, status_of, told};
+use command::talk::{Usage, asked, status_of, told};
 use publication::publishing::publish;
 use sensitivity::table::Table;
 use std::alloc::Global;
@@ -30,19 +30,15 @@ fn page_of(heap: Global, bytes: &[u8], full: bool) -> Result<String, Refusal>
     }
 }
 
-// What the program does, and why it stops where it does not end well.
-fn answered(rt: HostRuntime) -> Result<(), Stop> {
-    let Some(task) = asked(&rt, USAGE)? else {
-        return Ok(());
-    };
-    told(
-        &rt,
-        page_of(rt.alloc(), task.bytes.as_slice(), task.full),
-        "",
-    )
-}
-
 // The status is all that is left to say: an error that `main` gave back would be printed.
 fn main(rt: HostRuntime) -> ExitCode {
-    status_of(answered(rt))
+    status_of(match asked(&rt, USAGE) {
+        Ok(Some(task)) => told(
+            &rt,
+            page_of(rt.alloc(), task.bytes.as_slice(), task.full),
+            "",
+        ),
+        Ok(None) => Ok(()),
+        Err(stop) => Err(stop),
+    })
 }

@@ -1,5 +1,5 @@
 -- The published page, turnovers that give the same page, and what protects a cell. Assumes nothing: these are definitions.
-use Rattle.std.specs.Prelude.{◌≡◌, ℕ, zero, suc, ◌+◌, ◌*◌, ◌<◌, ◌≤◌, Bool, false, ◌≢◌, List, length, get_or, slice_index, slice_index_or}
+use Rattle.std.specs.Prelude.{◌≡◌, ℕ, zero, suc, ◌+◌, ◌*◌, ◌<◌, ◌≤◌, Bool, false, ◌≢◌, List, length, slice_index, slice_index_or}
 use Rattle.survey.specs.Survey.{cell_sum, row_sum, column_sum, largest, many, open_above, lacks}
 
 -- the survey: the table's rows and columns, the percentage, and for each workshop its cell and its turnover
@@ -29,8 +29,8 @@ pub record Agrees (s : Survey) (h : Pattern) (w : List ℕ) : Type 0 where
 pub record Open (s : Survey) (h : Pattern) (a b : ℕ) : Type 0 where
   pub world : List ℕ
   pub agrees : Agrees s h world
-  pub own : get_or world a 0 ≡ slice_index s.values a
-  pub above : get_or s.values b 0 + open_above s.percent (slice_index s.values b) ≤ slice_index world b
+  pub own : slice_index world a ≡ slice_index s.values a
+  pub above : slice_index s.values b + open_above s.percent (slice_index s.values b) ≤ slice_index world b
 
 -- each workshop is open to each other one
 unfoldable pub Safe : Survey → Pattern → Type 0

@@ -1,5 +1,5 @@
 -- What is promised. Each is a statement, a type; it is proved where a function's contract names it. Assumes nothing.
-use Rattle.std.specs.Prelude.{◌≡◌, ℕ, zero, suc, ◌+◌, ◌-◌, ◌*◌, ◌/◌, ◌%◌, ◌<◌, ◌≤◌, Bool, true, false, not, ◌&&◌, ◌≢◌, ◌⊎◌, List, [], ◌∷◌, length, get_or, ◌==◌, nat_lt, slice_index, slice_index_or, slice_set}
+use Rattle.std.specs.Prelude.{◌≡◌, ℕ, zero, suc, ◌+◌, ◌-◌, ◌*◌, ◌/◌, ◌%◌, ◌<◌, ◌≤◌, Bool, true, false, not, ◌&&◌, ◌≢◌, ◌⊎◌, List, [], ◌∷◌, length, ◌==◌, nat_lt, slice_index, slice_index_or, slice_set}
 use Rattle.survey.specs.Survey.{pick, row_sum, column_sum, largest, second, many, sum_of_all}
 use Rattle.survey.specs.Page.{Survey, Sound, Pattern, hidden, Open, Safe, span, true_sum, need, Witness, Protected}
 
@@ -23,8 +23,8 @@ leaves s h c rs ks = span (λ r. span (λ k. pick (slice_index_or rs r false && 
 -- a bar (a cut): the cell's row is marked and its column is not, no hidden cell of two workshops or more lies in a marked
 -- column outside the marked rows, and less may leave than the cell lacks
 pub record Bar (s : Survey) (h : Pattern) (c : ℕ) (rs ks : List Bool) : Type 0 where
-  pub row : get_or rs (c / s.columns) false ≡ true
-  pub column : get_or ks (c % s.columns) false ≡ false
+  pub row : slice_index_or rs (c / s.columns) false ≡ true
+  pub column : slice_index_or ks (c % s.columns) false ≡ false
   pub closed : (r k : ℕ) → r < s.rows → k < s.columns → slice_index_or rs r false ≡ false → slice_index_or ks k false ≡ true →
       hidden h (r * s.columns + k) ≡ true → many (r * s.columns + k) s.cells ≤ 1
   pub little : leaves s h c rs ks < need s c

@@ -31,13 +31,12 @@ loop-i-preserved-in-Some c =
 fewer : (ranked : List Ranked) (k : ℕ) → k < length (map (λ (p : Ranked). p.cell) ranked) → k < length ranked
 fewer ranked k l = omega (arith, length-map ranked (λ (p : Ranked). p.cell))
 
-pub offset_bounds-order-k : goal.offset_bounds-order-k
-offset_bounds-order-k c =
-    omega (arith, fewer c.args.order.now c.loop-i.k (blanking_room _ _ _ _ _ _ _ c.loop-i.invariant.1 c.requires.listed (omega arith) c.in-None.ensures.found c.requires.ordered c.requires.can), c.requires.few)
-
 pub bounds-order-k : goal.bounds-order-k
 bounds-order-k c =
     fewer c.args.order.now c.loop-i.k (blanking_room _ _ _ _ _ _ _ c.loop-i.invariant.1 c.requires.listed (omega arith) c.in-None.ensures.found c.requires.ordered c.requires.can)
+
+pub offset_bounds-order-k : goal.offset_bounds-order-k
+offset_bounds-order-k c = omega (arith, bounds-order-k c, c.requires.few)
 
 -- there is another cell to make blank
 room : (c : In-None) → c.loop-i.k < length c.args.order.now
