@@ -146,6 +146,8 @@ def try_tests(repo, bug):
     """a bug that its crate is proved with: the crates above, the programs' runs and all tests"""
     before = bug.plant(repo)
     try:
+        # a bug that is laid out otherwise than rt fmt does would be refused for that alone
+        subprocess.run(["rt", "fmt"], cwd=repo / "crates" / bug.crate, stdout=subprocess.DEVNULL, stderr=subprocess.DEVNULL, check=True)
         done = subprocess.run(["rt", "all", "test"], cwd=repo, stdout=subprocess.PIPE, stderr=subprocess.STDOUT, text=True)
         if done.returncode != 0:
             if "logic=not-proved" in done.stdout:

@@ -1,5 +1,5 @@
 // What a program reads and what it tells. No contract can say what stands outside the program, so the work is elsewhere.
-ghost use Rattle.std.specs.Prelude.{◌≡◌, ◌<◌, length, IfSome, IfErr, MatchResult};
+ghost use Rattle.std.specs.Prelude.{◌≡◌, ◌<◌, length, IfSome, IsNone, IfErr, MatchResult};
 ghost use Rattle.std.specs.Process.{exit_status};
 ghost use Rattle.command.specs.Talk.{Unread, Tells};
 ghost use Rattle.command.specs.declared.talk.Stop.TheVariants.{Call, Input, Output};
@@ -107,6 +107,16 @@ fn wrong_call(rt: &HostRuntime, usage: Usage) -> Stop
     Stop::Call
 }
 
+// Prints how the program is called, where a call asks for that: there is nothing to work on then.
+fn helped(rt: &HostRuntime, usage: Usage) -> Result<Option<Task>, Stop>
+    ensures { MatchResult result (λ task. IsNone task) (λ e. e ≡ Output) }
+{
+    match println!(rt; "{usage}") {
+        Ok(()) => Ok(None),
+        Err(_) => Err(Stop::Output),
+    }
+}
+
 // What a call to work asks for: the bytes of the file at that place among the words, or of standard input.
 fn task_of(
     rt: &HostRuntime,
@@ -135,10 +145,7 @@ pub fn asked(rt: &HostRuntime, usage: Usage) -> Result<Option<Task>, Stop>
         return Err(wrong_call(rt, usage));
     };
     match requested(words.as_slice()) {
-        Request::Help => match println!(rt; "{usage}") {
-            Ok(()) => Ok(None),
-            Err(_) => Err(Stop::Output),
-        },
+        Request::Help => helped(rt, usage),
         Request::Wrong => Err(wrong_call(rt, usage)),
         Request::Run { full, file } => match task_of(rt, words.as_slice(), full, file) {
             Ok(task) => Ok(Some(task)),
