@@ -7,4 +7,3 @@ pub mod Model
 pub mod Format
 pub mod Reading
 pub mod Lending
-pub mod Lines

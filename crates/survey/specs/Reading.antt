@@ -1,15 +1,14 @@
 -- What reading gives: the head, and the survey. Assumes nothing: these are definitions.
-use Rattle.std.specs.Prelude.{◌≡◌, ℕ, suc, ◌+◌, ◌*◌, ◌<◌, ◌≤◌, ◌⊎◌, List, map, length, Some, None, slice_index}
+use Rattle.std.specs.Prelude.{◌≡◌, ℕ, suc, ◌+◌, ◌*◌, ◌<◌, ◌≤◌, ◌⊎◌, List, length, Some, None, slice_index}
 use Rattle.survey.specs.Format.{announced, cell_at, turnover_at, decoded, first_bad, verdict}
-use Rattle.std.specs.List.{range_with_len}
-use Rattle.survey.specs.Model.{cells_of, turnovers_of, model}
+use Rattle.survey.specs.Model.{model}
 use Rattle.survey.specs.declared.checked.Survey.{Survey}
 use Rattle.survey.specs.declared.format.Head.{Head}
 use Rattle.survey.specs.declared.refusal.Refusal.{Refusal}
 use Rattle.survey.specs.declared.refusal.Refusal.TheVariants.{Memory}
 use Rattle.survey.specs.declared.workshop.Workshop.{Workshop}
 
--- a head that is in order: it says what the bytes say, and only a workshop can still be refused
+-- a head that is in order: it says what the bytes say, so that only a workshop can still be refused
 pub record Headed (bytes : List ℕ) (h : Head) : Type 0 where
   pub rows : h.rows ≡ slice_index bytes 0
   pub columns : h.columns ≡ slice_index bytes 1
@@ -23,20 +22,17 @@ pub record Headed (bytes : List ℕ) (h : Head) : Type 0 where
   pub few_percent : h.percent ≤ 100
   pub few : h.workshops ≤ 20000
   pub whole : length bytes ≡ 5 + 6 * h.workshops
-  pub rest : verdict bytes ≡ first_bad bytes (h.rows * h.columns) 0 h.workshops
+
+-- workshop i as its bytes say it
+abbrev pub workshop_in : List ℕ → ℕ → Workshop
+workshop_in bytes i = record { cell = cell_at bytes i; turnover = turnover_at bytes i }
 
 -- workshop i is taken: it is the one in the bytes, and the refusal is up to those after it
 pub record Taken (bytes : List ℕ) (cells i : ℕ) (w : Workshop) : Type 0 where
-  pub cell : w.cell ≡ cell_at bytes i
-  pub turnover : w.turnover ≡ turnover_at bytes i
+  pub same : w ≡ workshop_in bytes i
   pub inside : w.cell < cells
   pub in_range : w.turnover ≤ 1000000000
   pub rest : (more : ℕ) → first_bad bytes cells i (suc more) ≡ first_bad bytes cells (i + 1) more
-
--- the first n workshops of the bytes, in their order
-pub record Collected (bytes : List ℕ) (n : ℕ) (ws : List Workshop) : Type 0 where
-  pub cells : cells_of ws ≡ map (cell_at bytes) (range_with_len 0 n)
-  pub turnovers : turnovers_of ws ≡ map (turnover_at bytes) (range_with_len 0 n)
 
 -- the bytes are taken, and the survey is what they say
 pub record Reads (bytes : List ℕ) (s : Survey) : Type 0 where

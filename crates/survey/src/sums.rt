@@ -1,6 +1,5 @@
 // The sums of a survey: of each cell, of a row, of a column, and of all.
-ghost use Rattle.std.specs.Prelude.{◌≡◌, ℕ, ◌+◌, ◌*◌, ◌<◌, ◌≤◌, length, vec_len, ◌==◌, slice_index};
-ghost use Rattle.survey.specs.Lines.{line_mark, line_number, line_total};
+ghost use Rattle.std.specs.Prelude.{◌≡◌, ℕ, ◌^◌, ◌<◌, ◌≤◌, Bool, length, filter, sum_by, slice_index};
 ghost use Rattle.survey.specs.Lending.{Written, Fills};
 ghost use Rattle.survey.specs.Model.{model, size};
 ghost use Rattle.survey.specs.Page.{true_sum};
@@ -12,34 +11,12 @@ use crate::checked::Survey;
 use crate::refusal::{Lent, Refusal};
 use crate::workshop::Workshop;
 
-// Clears the first entries.
-fn clear(sums: &mut [u64], cells: usize)
-    requires { cells ≤ length sums.old }
-    ensures { Written 0 (λ _. 0) cells sums.old sums.new }
+// What a workshop adds to a sum.
+fn amount(workshop: &Workshop) -> u64
+    ensures value { result ≡ workshop.now.turnover }
+    ensures fits { result < 2 ^ 32 }
 {
-    for d in 0..cells {
-        sums[d] = 0;
-    }
-}
-
-// What is summed: a row, a column, or all workshops.
-#[derive(Clone, Copy)]
-enum Line {
-    Row(usize),
-    Column(usize),
-    All,
-}
-
-// Whether a cell lies on the line in a table of so many columns.
-fn lies_on(line: Line, columns: usize, cell: u16) -> bool
-    requires { 0 < columns }
-    ensures { result ≡ (line_mark line columns cell == line_number line) }
-{
-    match line {
-        Line::Row(row) => cell as usize / columns == row,
-        Line::Column(column) => cell as usize % columns == column,
-        Line::All => true,
-    }
+    workshop.turnover as u64
 }
 
 impl Survey {
@@ -82,7 +59,7 @@ impl Survey {
         requires clear { (d : ℕ) → d < size (model self.now) → slice_index sums.old d ≡ 0 }
         ensures { Written 0 (true_sum (model self.now)) (size (model self.now)) sums.old sums.new }
     {
-        for workshop in self.workshops.iter() {
+        for workshop in &self.workshops {
             sums[workshop.cell as usize] += workshop.turnover as u64;
         }
     }
@@ -94,42 +71,41 @@ impl Survey {
         if sums.len() < self.cells() {
             return Err(Refusal::Short(Lent::Sums));
         }
-        clear(sums, self.cells());
+        sums[..self.cells()].fill(0);
         self.sum_cells(sums);
         Ok(())
     }
 
-    // The sum of the workshops on one line.
-    fn line_sum(&self, line: Line) -> u64
-        ensures { result ≡ line_total line (model self.now) }
+    // The sum of the workshops in the cells of which the test holds.
+    fn sum_where<F: Fn(usize) -> bool>(&self, test: F) -> u64
+        requires { F.IsAlwaysCallable test }
+        ensures { (holds : ℕ → Bool) → ((c : ℕ) (b : Bool) → F.post test c b → b ≡ holds c) → result ≡ sum_by (λ w. w.turnover) (filter (λ w. holds w.cell) self.now.workshops.items) }
     {
-        let mut sum: u64 = 0;
-        for workshop in self.workshops.iter() {
-            if lies_on(line, self.columns, workshop.cell) {
-                sum += workshop.turnover as u64;
-            }
-        }
-        sum
+        self.workshops
+            .iter()
+            .filter(|workshop| test(workshop.cell as usize))
+            .map(amount)
+            .sum()
     }
 
     // The sum of a row, 0 for one past the table.
     pub fn row_sum(&self, row: usize) -> u64
         ensures { result ≡ row_sum (model self.now).columns (model self.now).cells (model self.now).values row }
     {
-        self.line_sum(Line::Row(row))
+        self.sum_where(|cell| cell / self.columns == row)
     }
 
     // The sum of a column, 0 for one past the table.
     pub fn column_sum(&self, column: usize) -> u64
         ensures { result ≡ column_sum (model self.now).columns (model self.now).cells (model self.now).values column }
     {
-        self.line_sum(Line::Column(column))
+        self.sum_where(|cell| cell % self.columns == column)
     }
 
     // The sum of all turnovers.
     pub fn total(&self) -> u64
         ensures { result ≡ sum_of_all (model self.now).values }
     {
-        self.line_sum(Line::All)
+        self.sum_where(|_| true)
     }
 }

@@ -6,7 +6,6 @@ use Rattle.survey.proofs.format.workshop_at.Goals as goal
 pub returns : goal.returns
 returns c =
     let six : (11 + 6 * c.args.i) - (5 + 6 * c.args.i) ≡ 6 = omega arith in
-    record {
-      cell = c.workshop_of.ensures.cell ∙ cell_of_part c.args.bytes.now c.args.i _ six;
-      turnover = c.workshop_of.ensures.turnover ∙ turnover_of_part c.args.bytes.now c.args.i _ six;
-    }
+    let cell = c.workshop_of.ensures.cell ∙ cell_of_part c.args.bytes.now c.args.i _ six in
+    let turnover = c.workshop_of.ensures.turnover ∙ turnover_of_part c.args.bytes.now c.args.i _ six in
+    λ j. record { cell = cell j; turnover = turnover j }

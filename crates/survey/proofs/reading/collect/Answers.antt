@@ -1,12 +1,13 @@
--- One workshop more, as it stands in the bytes.
-use Rattle.std.proofs.Common.{[], ◌∷◌, refl, rules}
-use Rattle.std.proofs.lemmas.Slice.{pushed}
-use Rattle.survey.proofs.Decoding.{collected_more}
+-- The chain gives each workshop in turn.
+use Rattle.std.proofs.Common.{rules, arith}
+use Rattle.std.proofs.lemmas.Iterator.{YieldsList-from_range, YieldsList-from_map, items_from_collect}
+use Rattle.std.proofs.lemmas.Iterator.Consumers.{YieldsList-at}
+use Rattle.survey.specs.Reading.{workshop_in}
 use Rattle.survey.proofs.reading.collect.Goals as goal
 
-pub loop-i-preserved : goal.loop-i-preserved
-loop-i-preserved c = (
-  search rules,
-  collected_more c.args.bytes.now c.loop-i.i _ _ c.workshop_at.result c.loop-i.invariant.1 c.workshop_at.ensures.cell c.workshop_at.ensures.turnover
-      (pushed (c.workshop_at.result ∷ []) refl c.in_ok-push.was c.push.ensures.items),
-)
+pub returns : goal.returns
+returns c =
+    items_from_collect _ c.collect.ensures.ran
+    (YieldsList-from_map _ (workshop_in c.args.bytes.now)
+    (YieldsList-at c.map.ensures.source (YieldsList-from_range 0 c.args.workshops c.args.workshops (cc) (omega arith)))
+    c.map.ensures.closure (λ x r q k. search rules))
