@@ -1,14 +1,7 @@
 -- One workshop is looked at, and what is left is one fewer.
-use Rattle.std.proofs.Common.{◌≡◌, suc, ◌+◌, ◌-◌, sym, ap, ◌∙◌, arith, rules}
+use Rattle.std.proofs.Common.{◌≡◌, suc, ◌+◌, ◌-◌, sym, ap, ◌∙◌, arith}
 use Rattle.survey.specs.Format.{first_bad}
 use Rattle.survey.proofs.format.check_workshops.Goals as goal
-
-pub returns-in_err-checked_workshop : goal.returns-in_err-checked_workshop
-returns-in_err-checked_workshop c =
-    let i = c.loop-i.i in
-    let left : c.args.workshops - i ≡ suc (c.args.workshops - (i + 1)) = omega arith in
-    let refused = sym c.loop-i.invariant ∙ ap (first_bad c.args.bytes.now c.args.cells i) left ∙ c.in_err-checked_workshop.ensures (c.args.workshops - (i + 1)) in
-    search rules
 
 pub loop-i-preserved : goal.loop-i-preserved
 loop-i-preserved c =

@@ -1,5 +1,5 @@
 -- What the head says and what no workshop is refused for make the survey's invariant.
-use Rattle.std.proofs.Common.{◌≡◌, ℕ, ◌*◌, ◌<◌, map, vec_len, ap, ◌∙◌, arith}
+use Rattle.std.proofs.Common.{◌≡◌, ℕ, ◌*◌, ◌<◌, map, vec_len, get_or, ap, ◌∙◌, arith}
 use Rattle.std.proofs.lemmas.Simd.{map-map}
 use Rattle.std.specs.List.{range_with_len}
 use Rattle.survey.proofs.Decoding.{InOrder, none_bad, workshops_decide, read_length, read_item}
@@ -10,27 +10,29 @@ use Rattle.survey.specs.declared.workshop.Workshop.{Workshop}
 use Rattle.survey.proofs.reading.read.Goals as goal
 use Rattle.survey.proofs.reading.read.Goals.{In_ok-workshops}
 
--- each workshop that was collected is in order
-each_in_order : (c : In_ok-workshops) (k : ℕ) → k < c.in_ok-head.head.workshops →
-    InOrder c.args.bytes.now (c.in_ok-head.head.rows * c.in_ok-head.head.columns) k
-each_in_order c k below = none_bad c.args.bytes.now _ 0 c.in_ok-head.head.workshops c.in_ok-check_workshops.ensures k (omega arith) (omega arith)
+module _ (c : In_ok-workshops) where
+  -- as many as the head announces
+  many : vec_len c.in_ok-workshops.workshops ≡ c.in_ok-head.head.workshops
+  many = c.in_ok-workshops.workshops.ok.0 ∙ read_length _ _ _ c.in_ok-workshops.ensures
 
-pub invariant_of-result : goal.invariant_of-result
-invariant_of-result c =
-    let h = c.in_ok-head.ensures in
-    let ws = c.in_ok-workshops.workshops in
-    let n : vec_len ws ≡ c.in_ok-head.head.workshops = ws.ok.0 ∙ read_length _ _ _ c.in_ok-workshops.ensures in
-    let item = read_item _ _ _ c.in_ok-workshops.ensures in record {
-      some_rows = h.some_rows;
-      few_rows = h.few_rows;
-      some_columns = h.some_columns;
-      few_columns = h.few_columns;
-      some_percent = h.some_percent;
-      few_percent = h.few_percent;
-      few = omega arith;
-      inside = λ k d below. rw (item k d (omega arith)) ((each_in_order c k (omega arith)).0);
-      in_range = λ k d below. rw (item k d (omega arith)) ((each_in_order c k (omega arith)).1);
-    }
+  -- each is the one in the bytes
+  item : (k : ℕ) (d : Workshop) → k < vec_len c.in_ok-workshops.workshops →
+      get_or c.in_ok-workshops.workshops.items k d ≡ workshop_in c.args.bytes.now k
+  item k d below = read_item _ _ _ c.in_ok-workshops.ensures k d (omega (arith, many))
+
+  -- and in order
+  each_in_order : (k : ℕ) → k < vec_len c.in_ok-workshops.workshops →
+      InOrder c.args.bytes.now (c.in_ok-head.head.rows * c.in_ok-head.head.columns) k
+  each_in_order k below = none_bad c.args.bytes.now _ 0 c.in_ok-head.head.workshops c.in_ok-check_workshops.ensures k (omega arith) (omega (arith, many))
+
+pub invariant_of-result-clause-few : goal.invariant_of-result-clause-few
+invariant_of-result-clause-few c = omega (arith, many c, c.in_ok-head.ensures.few)
+
+pub invariant_of-result-clause-inside : goal.invariant_of-result-clause-inside
+invariant_of-result-clause-inside c = λ k d below. rw (item c k d below) ((each_in_order c k below).0)
+
+pub invariant_of-result-clause-in_range : goal.invariant_of-result-clause-in_range
+invariant_of-result-clause-in_range c = λ k d below. rw (item c k d below) ((each_in_order c k below).1)
 
 pub returns : goal.returns
 unfolding decoded
