@@ -1,7 +1,7 @@
 -- A cell's profile with one workshop more at the end, as a loop adds it. Assumes nothing.
 use Rattle.std.proofs.Common.{◌≡◌, ℕ, ◌+◌, ◌*◌, ◌<◌, ◌≤◌, min, max, ◌≢◌, ◌⊎◌, List, [], ◌∷◌, ◌++◌, map, length, get_or, take, set, sym, refl, ap, ◌∙◌, inl, inr, arith}
 use native.Mathlib.Nat.{max_comm}
-use Rattle.std.proofs.lemmas.List.{take_more, take_all, get_or-set_same, get_or-set_other}
+use Rattle.std.proofs.lemmas.List.{take_more, get_or-set_same, get_or-set_other}
 use Rattle.std.proofs.lemmas.Bool.{cases_eq}
 use Rattle.survey.proofs.Cells.{cell_step, second_le_largest, no_sum, no_largest, no_second, no_many}
 use Rattle.survey.proofs.Lending.{written_changed}
@@ -173,14 +173,4 @@ tallied_more ws i n before now z p so_far room below inside in_range is =
         | inl e ↦ rw e (omega (arith, ap (λ (q : Profile). q.sum) (same ∙ is), so_far.small w.cell inside))
         | inr other ↦ omega (arith, ap (λ (q : Profile). q.sum) (get_or-set_other now w.cell d p no_profile other), so_far.small d in_table)
       ];
-    }
-
--- after the last workshop
-pub tallied_all : (ws : List Workshop) (i n : ℕ) (before now : List Profile) → Tallied ws i n before now → length ws ≤ i →
-    Written no_profile (profile_of (cells_of ws) (turnovers_of ws)) n before now
-tallied_all ws i n before now so_far end =
-    record {
-      long = so_far.written.long;
-      here = λ d below. so_far.written.here d below ∙ ap (λ (l : List Workshop). profile_of (cells_of l) (turnovers_of l) d) (take_all i ws end);
-      past = so_far.written.past;
     }

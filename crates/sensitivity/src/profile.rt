@@ -3,7 +3,8 @@ ghost use Rattle.std.specs.Prelude.{◌≡◌, ◌^◌, ◌<◌};
 ghost use Rattle.sensitivity.specs.Profiles.{joined, lack_of};
 ghost use Rattle.survey.specs.Survey.{open_above};
 
-#[derive(Clone, Copy, Debug, PartialEq, Eq)]
+// The default is what is known of a cell with no workshop.
+#[derive(Clone, Copy, Debug, Default, PartialEq, Eq)]
 pub struct Profile {
     pub workshops: usize,
     pub sum: u64,
@@ -11,19 +12,11 @@ pub struct Profile {
     pub second: u32,
 }
 
-// A cell with no workshop.
-pub(crate) const EMPTY: Profile = Profile {
-    workshops: 0,
-    sum: 0,
-    largest: 0,
-    second: 0,
-};
-
 // So much must stay open above a turnover: the percentage of it, rounded up.
 pub fn open_above(percent: u8, turnover: u32) -> u64
     ensures { result ≡ open_above percent turnover }
 {
-    (turnover as u64 * percent as u64 + 99) / 100
+    (turnover as u64 * percent as u64).div_ceil(100)
 }
 
 impl Profile {

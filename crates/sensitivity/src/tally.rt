@@ -6,7 +6,7 @@ ghost use Rattle.survey.specs.Page.{need};
 ghost use Rattle.survey.specs.declared.refusal.Refusal.TheVariants.{Memory};
 ghost use Rattle.sensitivity.specs.Profiles.{profile_of, no_profile};
 
-use crate::profile::{EMPTY, Profile};
+use crate::profile::Profile;
 use crate::table::Table;
 use std::alloc::Global;
 use survey::checked::Survey;
@@ -29,7 +29,7 @@ impl Table {
     pub fn new(heap: Global, survey: Survey) -> Result<Table, Refusal>
         ensures { MatchResult result (λ t. t.survey ≡ survey) (λ e. e ≡ Memory) }
     {
-        let mut profiles = vec![in heap; EMPTY; survey.cells()]?;
+        let mut profiles = vec![in heap; Profile::default(); survey.cells()]?;
         tally(&survey, &mut profiles);
         Ok(Table { survey, profiles })
     }
@@ -44,11 +44,7 @@ impl Table {
     pub fn profile(&self, cell: usize) -> Profile
         ensures { result ≡ profile_of (model self.now.survey).cells (model self.now.survey).values cell }
     {
-        if cell < self.profiles.len() {
-            self.profiles[cell]
-        } else {
-            EMPTY
-        }
+        self.profiles.get(cell).copied().unwrap_or_default()
     }
 
     // What a cell lacks; nothing past the table.
