@@ -1,6 +1,5 @@
-use Rattle.std.proofs.Common.{true, false, refl, arith}
-use Rattle.survey.proofs.Lending.{written_more}
+use Rattle.std.proofs.Common.{rules, true}
 use Rattle.pattern.proofs.blanks.blank_all.Goals as goal
 
-pub loop-d-preserved : goal.loop-d-preserved
-loop-d-preserved c = written_more false (λ _. true) c.loop-d.d _ _ c.loop-d.invariant true (omega arith) refl
+pub returns : goal.returns
+returns c = c.fill_cells.ensures (λ d. true) (λ d b below said. search rules)

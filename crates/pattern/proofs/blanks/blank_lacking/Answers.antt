@@ -1,9 +1,7 @@
-use Rattle.std.proofs.Common.{false, ltb, ap, arith}
-use Rattle.survey.proofs.Lending.{written_more}
+use Rattle.std.proofs.Common.{rules, ltb}
 use Rattle.survey.specs.Model.{model}
 use Rattle.survey.specs.Page.{need}
 use Rattle.pattern.proofs.blanks.blank_lacking.Goals as goal
 
-pub loop-d-preserved : goal.loop-d-preserved
-loop-d-preserved c =
-    written_more false (λ d. ltb 0 (need (model c.args.table.now.survey) d)) c.loop-d.d _ _ c.loop-d.invariant _ (omega arith) (ap (ltb 0) c.lack.ensures)
+pub returns : goal.returns
+returns c = let filled = c.fill_cells.ensures (λ d. ltb 0 (need (model c.args.table.now.survey) d)) (λ d b below said. search rules) in search rules
