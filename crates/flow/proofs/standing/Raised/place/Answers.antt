@@ -1,10 +1,10 @@
 use Rattle.std.proofs.Common.{◌≡◌, arith}
 use Rattle.std.proofs.lemmas.Nat.{mul-add-lt}
-use Rattle.flow.proofs.part.place.Goals as goal
+use Rattle.flow.proofs.standing.Raised.place.Goals as goal
 
 pub returns : goal.returns
 returns c =
-    let s = c.args.table.now.survey in
+    let s = c.args.self.now.table.now.survey in
     let columns : c.columns.result ≡ s.columns = cc in
     record {
       value = rw columns;
