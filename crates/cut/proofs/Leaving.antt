@@ -9,7 +9,7 @@ use Rattle.flow.proofs.Bounds.{sum_small}
 use Rattle.survey.specs.Promise.{Bar, may_give, leaves}
 use Rattle.survey.proofs.Cells.{pick_true, pick_false}
 use Rattle.survey.proofs.Spans.{span_none, span_suc}
-use Rattle.cut.specs.Barring.{Shut}
+use Rattle.flow.specs.Closed.{Shut}
 
 module _ (s : Survey) (h : Pattern) (c d : ℕ) where
   -- a printed cell gives nothing
@@ -53,7 +53,6 @@ module _ (s : Survey) (h : Pattern) (rs ks : List Bool) where
   ShutCells i j = (k : ℕ) → k < j → Fine i k
 
   pub shut_all : (i : ℕ) → s.rows ≤ i → ShutRows i → Shut s h rs ks
-  unfolding Shut
   shut_all i end so_far r k p q = so_far r k (omega arith) q
 
   -- one row more
@@ -124,7 +123,6 @@ module _ (s : Survey) (h : Pattern) (c : ℕ) (rs ks : List Bool) where
 pub not_shut : (s : Survey) (h : Pattern) (rs ks : List Bool) (r k n w : ℕ) (b : Bool) → n ≡ s.columns → r < s.rows → k < s.columns →
     get_or rs r false ≡ false → get_or ks k false ≡ true → b ≡ hidden h (r * n + k) → b ≡ true → w ≡ many (r * n + k) s.cells → 1 < w →
     Shut s h rs ks → ⊥
-unfolding Shut
 not_shut s h rs ks r k n w b e p q a m is t many_is two shut =
     omega (
       arith,
@@ -161,13 +159,11 @@ leaving_all s h c rs ks r left so_far e = so_far ∙ ap (λ (i : ℕ). out_rows 
 module _ (s : Survey) (h : Pattern) (c : ℕ) (rs ks : List Bool) where
   -- a bar is shut
   pub bar_shut : Bar s h c rs ks → Shut s h rs ks
-  unfolding Shut
   bar_shut bar = bar.closed
 
   module _ (n left lacking : ℕ) (e : n ≡ s.columns) (is : left ≡ leaves s h c rs ks) (lacks : lacking ≡ need s c) where
     -- all its parts make a bar
     pub bar_made : get_or rs (c / n) false ≡ true → get_or ks (c % n) false ≡ false → Shut s h rs ks → ltb left lacking ≡ true → Bar s h c rs ks
-    unfolding Shut
     bar_made row column shut less = record {
       row = sym (ap (λ (i : ℕ). get_or rs (c / i) false) e) ∙ row;
       column = sym (ap (λ (i : ℕ). get_or ks (c % i) false) e) ∙ column;

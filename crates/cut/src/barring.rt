@@ -2,7 +2,7 @@
 ghost use Rattle.std.specs.Prelude.{◌≡◌, ℕ, ◌<◌, true};
 ghost use Rattle.survey.specs.Model.{model, size};
 ghost use Rattle.survey.specs.Promise.{Bar, may_give, leaves};
-ghost use Rattle.cut.specs.Barring.{Shut};
+ghost use Rattle.flow.specs.Closed.{Shut};
 
 use crate::finding::Cut;
 use crate::judging::is_blank;

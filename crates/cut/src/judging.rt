@@ -13,11 +13,7 @@ use survey::refusal::Refusal;
 pub(crate) fn is_blank(pattern: &[bool], cell: usize) -> bool
     ensures { result ≡ hidden pattern.now cell }
 {
-    if cell < pattern.len() {
-        pattern[cell]
-    } else {
-        false
-    }
+    pattern.get(cell).copied().unwrap_or(false)
 }
 
 // Other cell sums that give the same page and protect the cell, in the memory lent, or the least cut that shows that there
