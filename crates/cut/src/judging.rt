@@ -36,6 +36,7 @@ pub fn witness_or_cut(
     if flow.lacking == 0 {
         return Ok(Finding::Shown);
     }
+    // an array of a struct goes into another one by way of a variable: the borrow checker asks for it
     let rows = flow.rows;
     let columns = flow.columns;
     Ok(Finding::Barred(Cut { rows, columns }))
