@@ -79,8 +79,5 @@ fn said(rt: &HostRuntime, answer: Result<Audit, Refusal>) -> Result<(), Stop>
 
 // The status is all that is left to say: an error that `main` gave back would be printed.
 fn main(rt: HostRuntime) -> ExitCode {
-    status_of(worked(&rt, USAGE, |task| said(
-        &rt,
-        audit_of(rt.alloc(), &task),
-    )))
+    status_of(worked(&rt, USAGE, |task| said(&rt, audit_of(rt.alloc(), &task))))
 }

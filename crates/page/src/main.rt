@@ -27,9 +27,5 @@ fn page_of(heap: Global, task: &Task) -> Result<String, Refusal>
 
 // The status is all that is left to say: an error that `main` gave back would be printed.
 fn main(rt: HostRuntime) -> ExitCode {
-    status_of(worked(&rt, USAGE, |task| told(
-        &rt,
-        page_of(rt.alloc(), &task),
-        "",
-    )))
+    status_of(worked(&rt, USAGE, |task| told(&rt, page_of(rt.alloc(), &task), "")))
 }
