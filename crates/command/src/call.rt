@@ -19,7 +19,8 @@ pub enum Request {
     Help,
     // the call is wrong
     Wrong,
-    // work: whether large surveys are served too, and where among the words the file's name is, None for standard input
+    // work: whether large surveys are served too, and where among the words the file's name is, None for standard input (a
+    // place and no text, so that the contract can tell which word it is)
     Run { full: bool, file: Option<usize> },
 }
 

@@ -55,7 +55,7 @@ impl fmt::Display for Usage {
 // What a program is to work on.
 #[derive(Drop)]
 pub struct Task {
-    // whether large surveys are served too
+    // whether large surveys are served too: an option of the call, which says nothing of the bytes
     pub full: bool,
     pub bytes: Vec<u8>,
 }

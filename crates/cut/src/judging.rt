@@ -17,7 +17,7 @@ pub(crate) fn is_blank(pattern: &[bool], cell: usize) -> bool
 }
 
 // Other cell sums that give the same page and protect the cell, in the memory lent, or the least cut that shows that there
-// are none. A cell that is printed and lacks something has neither.
+// are none. A cell that is printed and lacks something has neither. The slices stand apart, as `raise` takes them.
 pub fn witness_or_cut(
     table: &Table,
     pattern: &[bool],

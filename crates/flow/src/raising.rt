@@ -13,7 +13,8 @@ use crate::standing::{Raised, Standing};
 use sensitivity::table::Table;
 use survey::refusal::{Lent, Refusal};
 
-// How a run ended: what is lacking still, and where something is, which rows and columns are reached.
+// How a run ended: what is lacking still, and where something is, which rows and columns are reached. The marks are arrays
+// for the largest table, since the flow takes no memory and so can't fail for want of it.
 #[derive(Clone, Copy, Debug, PartialEq, Eq)]
 pub struct Flow {
     pub lacking: u64,
@@ -90,7 +91,8 @@ fn run(
 
 // Raises a cell by what it lacks, as far as the ways go: its sum goes up, other hidden cells fall and rise for it, and the
 // page stays the same. What is lent is used for the survey's sums, for what each cell fell and rose, and for the sums as
-// they stand at the end; what lies past the table's size stays.
+// they stand at the end; what lies past the table's size stays. Each is a slice of its own, since a caller may lend them from
+// different places and reads each by itself afterwards.
 pub fn raise(
     table: &Table,
     pattern: &[bool],

@@ -14,7 +14,7 @@ use crate::step::Step;
 pub(crate) struct Search {
     // after how many rises the raised cell's column is reached, None where no way is left
     pub(crate) level: Option<usize>,
-    // how each row and each column was reached, None where it was not
+    // how each row and each column was reached, None where it was not; arrays for the largest table, as the flow takes no memory
     pub(crate) rows: [Option<Step>; 40],
     pub(crate) columns: [Option<Step>; 40],
 }
@@ -31,7 +31,8 @@ fn in_round(step: Option<Step>, round: usize) -> bool
 }
 
 impl Raised<'_> {
-    // Reaches the rows in which a cell can rise, from the columns of this round; whether there is a new one.
+    // Reaches the rows in which a cell can rise, from the columns of this round; whether there is a new one. The loops go over
+    // the numbers of columns and rows, which make the cell's number and are what a step keeps.
     fn reach_rows(
         &self,
         round: usize,
@@ -63,7 +64,8 @@ impl Raised<'_> {
 
 impl Standing<'_> {
     // Searches for a way with as few rises as can be, rows and columns by number, so that each is reached from the first one
-    // that will do. It stops as soon as the raised cell's column is reached, or where a round reaches no new row.
+    // that will do. It stops as soon as the raised cell's column is reached, or where a round reaches no new row: the loops over
+    // the numbers of rows and columns are left from inside then, by their label.
     pub(crate) fn find_way(&self) -> Search
         requires { self.now.raised.cell < size (survey_of self.now.raised) }
         ensures { Searched (survey_of self.now.raised) self.now.raised.pattern.now self.now.raised.cell (stands self.now) result }
