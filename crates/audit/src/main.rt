@@ -7,7 +7,7 @@ ghost use Rattle.audit.specs.Judges.{Judges, Blanked, Answers, ending, Ends};
 
 use command::limits::served;
 use command::parts::survey_part;
-use command::talk::{Stop, Usage, asked, status_of, told};
+use command::talk::{Stop, Task, Usage, status_of, told, worked};
 use pattern::blanks::from_bytes;
 use publication::audit::{audit, audit_line};
 use publication::audited::Audit;
@@ -28,10 +28,8 @@ fn pattern_of(heap: Global, survey: &Survey, bytes: &[u8]) -> Result<Vec<bool>, 
     ensures { Blanked (model survey.now) bytes.now result }
 {
     let mut pattern = vec![in heap; false; survey.cells()]?;
-    match from_bytes(survey, bytes, &mut pattern) {
-        Ok(()) => Ok(pattern),
-        Err(refusal) => Err(refusal),
-    }
+    from_bytes(survey, bytes, &mut pattern)?;
+    Ok(pattern)
 }
 
 // The audit's answer of a survey and a pattern that are taken.
@@ -39,29 +37,20 @@ fn judged(heap: Global, survey: Survey, pattern: &[bool]) -> Result<Audit, Refus
     requires { size (model survey) ≤ length pattern.now }
     ensures { Answers (model survey) pattern.now result }
 {
-    match Table::new(heap, survey) {
-        Ok(table) => audit(heap, &table, pattern),
-        Err(refusal) => Err(refusal),
-    }
+    let table = Table::new(heap, survey)?;
+    audit(heap, &table, pattern)
 }
 
 // The audit's answer, or the first refusal.
-fn audit_of(heap: Global, bytes: &[u8], full: bool) -> Result<Audit, Refusal>
-    ensures { Judges bytes.now full result }
+fn audit_of(heap: Global, task: &Task) -> Result<Audit, Refusal>
+    ensures { Judges task.now.bytes.items task.now.full result }
 {
+    let bytes = task.bytes.as_slice();
     let (head, tail) = bytes.split_at(survey_part(bytes));
-    let survey = match read(heap, head) {
-        Ok(survey) => survey,
-        Err(refusal) => return Err(refusal),
-    };
-    let pattern = match pattern_of(heap, &survey, tail) {
-        Ok(pattern) => pattern,
-        Err(refusal) => return Err(refusal),
-    };
-    match served(&survey, full) {
-        Ok(()) => judged(heap, survey, &pattern),
-        Err(refusal) => Err(refusal),
-    }
+    let survey = read(heap, head)?;
+    let pattern = pattern_of(heap, &survey, tail)?;
+    served(&survey, task.full)?;
+    judged(heap, survey, &pattern)
 }
 
 // How the program ends once its answer is told: well only where the pattern protects.
@@ -90,9 +79,5 @@ fn said(rt: &HostRuntime, answer: Result<Audit, Refusal>) -> Result<(), Stop>
 
 // The status is all that is left to say: an error that `main` gave back would be printed.
 fn main(rt: HostRuntime) -> ExitCode {
-    status_of(match asked(&rt, USAGE) {
-        Ok(Some(task)) => said(&rt, audit_of(rt.alloc(), task.bytes.as_slice(), task.full)),
-        Ok(None) => Ok(()),
-        Err(stop) => Err(stop),
-    })
+    status_of(worked(&rt, USAGE, |task| said(&rt, audit_of(rt.alloc(), &task))))
 }

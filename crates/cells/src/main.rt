@@ -19,10 +19,7 @@ use survey::refusal::Refusal;
 fn table_of(heap: Global, bytes: &[u8]) -> Result<Table, Refusal>
     ensures { MatchResult result (λ t. Reads bytes.now t.survey) (λ e. Refuses bytes.now e ⊎ (e ≡ Memory)) }
 {
-    match read(heap, bytes) {
-        Ok(survey) => Table::new(heap, survey),
-        Err(refusal) => Err(refusal),
-    }
+    Table::new(heap, read(heap, bytes)?)
 }
 
 // The line of a cell.

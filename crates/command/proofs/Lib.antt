@@ -1,3 +1,2 @@
 -- Lemmas of the crate's proofs.
-mod Sizes
 mod Words

@@ -1,16 +1,11 @@
 -- One word of a call, and one word more.
-use Rattle.std.proofs.Common.{◌≡◌, ℕ, suc, ◌+◌, ◌<◌, Bool, false, eqb, List, [], ◌∷◌, map, length, get_or, Some, None, Option, sym, refl, ap, ◌∙◌, arith}
+use Rattle.std.proofs.Common.{◌≡◌, ℕ, suc, ◌+◌, ◌<◌, Bool, List, [], map, length, get_or, Some, None, Option, sym, ap, ◌∙◌, arith}
 use Rattle.std.proofs.lemmas.List.{length-map, get_or-map}
 use Rattle.command.specs.Call.{word_of, request_up_to, request_of, Within, Placed, run_after, request_after}
 use Rattle.command.specs.declared.call.Word.{Word}
 use Rattle.command.specs.declared.call.Word.TheVariants.{AskHelp, AskFull, Unknown, Name}
 use Rattle.command.specs.declared.call.Request.{Request}
 use Rattle.command.specs.declared.call.Request.TheVariants.{Help, Wrong, Run}
-
--- an empty text does not begin with '-'
-pub no_dash : (text : List ℕ) → length text ≡ 0 → false ≡ eqb (get_or text 0 0) 45
-no_dash [] h = refl
-no_dash (b ∷ rest) h = absurd (omega (arith, h))
 
 -- a place among n words is one among n + 1
 within_more : (n : ℕ) (file : Option ℕ) → Within n file → Within (n + 1) file

@@ -12,6 +12,11 @@ Unread Output = Unit {0}
 Unread (Refused e) = ⊥
 Unread Open = ⊥
 
+-- nothing is worked on: only help was asked for, or the program stops before it has looked at a survey
+abbrev pub Idle : Result (Unit {0}) Stop → Type 0
+Idle (Ok _) = Unit {0}
+Idle (Err e) = Unread e
+
 -- a program ends well only where it has an answer, and it stops with the refusal that it was given
 abbrev pub Tells : {T : Type 0} → Result T Refusal → Result (Unit {0}) Stop → Type 0
 Tells (Ok text) (Ok _) = Unit {0}

@@ -19,7 +19,8 @@ pub enum Request {
     Help,
     // the call is wrong
     Wrong,
-    // work: whether large surveys are served too, and where among the words the file's name is, None for standard input
+    // work: whether large surveys are served too, and where among the words the file's name is, None for standard input (a
+    // place and no text, so that the contract can tell which word it is)
     Run { full: bool, file: Option<usize> },
 }
 
@@ -27,25 +28,22 @@ pub enum Request {
 fn dashed(text: &str) -> bool
     ensures { result ≡ (slice_index text.now 0 == 45) }
 {
-    let bytes = text.as_bytes();
-    if bytes.is_empty() {
-        false
-    } else {
-        bytes[0] == b'-'
-    }
+    text.starts_with('-')
 }
 
-fn sort_of(text: &str) -> Word
-    ensures { result ≡ word_of text.now }
-{
-    if text == "--help" {
-        Word::AskHelp
-    } else if text == "--full" {
-        Word::AskFull
-    } else if dashed(text) {
-        Word::Unknown
-    } else {
-        Word::Name
+impl From<&str> for Word {
+    ghost from_gives = { λ text word. word ≡ word_of text.now };
+
+    fn from(text: &str) -> Word {
+        if text == "--help" {
+            Word::AskHelp
+        } else if text == "--full" {
+            Word::AskFull
+        } else if dashed(text) {
+            Word::Unknown
+        } else {
+            Word::Name
+        }
     }
 }
 
@@ -87,8 +85,8 @@ pub fn requested(words: &[String]) -> Request
         full: false,
         file: None,
     };
-    for i in 0..words.len() {
-        request = after(request, sort_of(words[i].as_str()), i);
+    for (i, word) in words.iter().enumerate() {
+        request = after(request, Word::from(word.as_str()), i);
     }
     request
 }

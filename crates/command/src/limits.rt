@@ -13,10 +13,7 @@ use survey::refusal::{Lent, Refusal};
 fn small(checked: &Survey) -> bool
     ensures { result ≡ is_small (model checked.now) }
 {
-    if checked.cells() > 64 {
-        return false;
-    }
-    checked.workshops().len() <= 2000
+    checked.cells() <= 64 && checked.workshops().len() <= 2000
 }
 
 // Nothing where the survey is served: a large one only where the call asks for it, since it takes long.

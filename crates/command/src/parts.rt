@@ -12,5 +12,5 @@ pub fn survey_part(bytes: &[u8]) -> usize
         return bytes.len();
     }
     let end = 5 + 6 * (bytes[3] as usize + 256 * bytes[4] as usize);
-    if end <= bytes.len() { end } else { bytes.len() }
+    end.min(bytes.len())
 }

@@ -1,14 +1,15 @@
 // What a program reads and what it tells. No contract can say what stands outside the program, so the work is elsewhere.
-ghost use Rattle.std.specs.Prelude.{◌≡◌, ◌<◌, length, IfSome, IsNone, IfErr, MatchResult};
+ghost use Rattle.std.specs.Prelude.{◌≡◌, ◌<◌, ◌⊎◌, length, IfSome, IsNone, IfErr, MatchResult};
 ghost use Rattle.std.specs.Process.{exit_status};
-ghost use Rattle.command.specs.Talk.{Unread, Tells};
+ghost use Rattle.command.specs.Talk.{Unread, Idle, Tells};
+ghost use Rattle.command.specs.declared.talk.Task.{Task};
 ghost use Rattle.command.specs.declared.talk.Stop.TheVariants.{Call, Input, Output};
 
 use crate::call::{Request, requested};
 use std::fmt::Display;
 use std::io::Read;
 use std::process::ExitCode;
-use std::{env, fmt, fs};
+use std::{env, fmt, fs, io};
 use survey::refusal::Refusal;
 
 // Why a program ends with status 1. What is to be told of it has been told.
@@ -54,49 +55,55 @@ impl fmt::Display for Usage {
 // What a program is to work on.
 #[derive(Drop)]
 pub struct Task {
-    // whether large surveys are served too
+    // whether large surveys are served too: an option of the call, which says nothing of the bytes
     pub full: bool,
     pub bytes: Vec<u8>,
+}
+
+// Where an input comes from.
+#[derive(Clone, Copy)]
+enum Source<'a> {
+    Standard,
+    File(&'a str),
+}
+
+impl fmt::Display for Source<'_> {
+    fn fmt<W: fmt::Write>(&self, f: &mut fmt::Formatter<W>) -> fmt::Result {
+        match self {
+            Source::Standard => write!(f, "standard input"),
+            Source::File(name) => write!(f, "the file {name}"),
+        }
+    }
+}
+
+impl Source<'_> {
+    // All that is there. Where it can't be read, standard error says so.
+    fn read(&self, rt: &HostRuntime) -> Result<Vec<u8>, Stop>
+        ensures { IfErr result (λ e. e ≡ Input) }
+    {
+        let unread = |e: io::Error|
+            ensures { result ≡ Input }
+        {
+            let _ = eprintln!(rt; "{self} can't be read: {e}");
+            Stop::Input
+        };
+        match self {
+            Source::Standard => {
+                let mut bytes = Vec::new(rt.alloc());
+                rt.stdin().read_to_end(&mut bytes).map_err(unread)?;
+                Ok(bytes)
+            }
+            Source::File(name) => fs::read(rt, *name).map_err(unread),
+        }
+    }
 }
 
 // The words of the call after the program's name. One that is no UTF-8 makes the call wrong.
 fn words(rt: &HostRuntime) -> Result<Vec<String>, Stop>
     ensures { IfErr result (λ e. e ≡ Call) }
 {
-    let Ok(args) = env::args(rt) else {
-        return Err(Stop::Call);
-    };
-    match args.skip(1).collect(rt.alloc()) {
-        Ok(words) => Ok(words),
-        Err(_) => Err(Stop::Call),
-    }
-}
-
-// All of standard input.
-fn from_input(rt: &HostRuntime) -> Result<Vec<u8>, Stop>
-    ensures { IfErr result (λ e. e ≡ Input) }
-{
-    let mut bytes = Vec::new(rt.alloc());
-    match rt.stdin().read_to_end(&mut bytes) {
-        Ok(_) => Ok(bytes),
-        Err(e) => {
-            let _ = eprintln!(rt; "standard input can't be read: {e}");
-            Err(Stop::Input)
-        }
-    }
-}
-
-// All of the file.
-fn from_file(rt: &HostRuntime, name: &str) -> Result<Vec<u8>, Stop>
-    ensures { IfErr result (λ e. e ≡ Input) }
-{
-    match fs::read(rt, name) {
-        Ok(bytes) => Ok(bytes),
-        Err(e) => {
-            let _ = eprintln!(rt; "the file {name} can't be read: {e}");
-            Err(Stop::Input)
-        }
-    }
+    let args = env::args(rt).map_err(|_| Stop::Call)?;
+    args.skip(1).collect(rt.alloc()).map_err(|_| Stop::Call)
 }
 
 // Says on standard error that the call is wrong, and how the program is called.
@@ -111,10 +118,8 @@ fn wrong_call(rt: &HostRuntime, usage: Usage) -> Stop
 fn helped(rt: &HostRuntime, usage: Usage) -> Result<Option<Task>, Stop>
     ensures { MatchResult result (λ task. IsNone task) (λ e. e ≡ Output) }
 {
-    match println!(rt; "{usage}") {
-        Ok(()) => Ok(None),
-        Err(_) => Err(Stop::Output),
-    }
+    println!(rt; "{usage}").map_err(|_| Stop::Output)?;
+    Ok(None)
 }
 
 // What a call to work asks for: the bytes of the file at that place among the words, or of standard input.
@@ -127,30 +132,39 @@ fn task_of(
     requires { IfSome file (λ place. place < length words.now) }
     ensures { MatchResult result (λ task. task.full ≡ full) (λ e. e ≡ Input) }
 {
-    let read = match file {
-        Some(place) => from_file(rt, words[place].as_str()),
-        None => from_input(rt),
+    let source = match file {
+        Some(place) => Source::File(words[place].as_str()),
+        None => Source::Standard,
     };
-    match read {
-        Ok(bytes) => Ok(Task { full, bytes }),
-        Err(stop) => Err(stop),
-    }
+    let bytes = source.read(rt)?;
+    Ok(Task { full, bytes })
 }
 
 // What to work on. None where only help was asked for, which is printed here.
 pub fn asked(rt: &HostRuntime, usage: Usage) -> Result<Option<Task>, Stop>
     ensures { IfErr result (λ e. Unread e) }
 {
-    let Ok(words) = words(rt) else {
-        return Err(wrong_call(rt, usage));
-    };
+    let words = words(rt).map_err(|_| wrong_call(rt, usage))?;
     match requested(words.as_slice()) {
         Request::Help => helped(rt, usage),
         Request::Wrong => Err(wrong_call(rt, usage)),
-        Request::Run { full, file } => match task_of(rt, words.as_slice(), full, file) {
-            Ok(task) => Ok(Some(task)),
-            Err(stop) => Err(stop),
-        },
+        Request::Run { full, file } => Ok(Some(task_of(rt, words.as_slice(), full, file)?)),
+    }
+}
+
+// Works on what the call asks for. Where it asks for help there is nothing to do, and a wrong call or an input that can't be
+// read ends the program before.
+pub fn worked<F: FnOnce(Task) -> Result<(), Stop>>(
+    rt: &HostRuntime,
+    usage: Usage,
+    work: F,
+) -> Result<(), Stop>
+    requires { F.IsAlwaysCallable work }
+    ensures { ((task : Task) × F.post work task result) ⊎ Idle result }
+{
+    match asked(rt, usage)? {
+        Some(task) => work(task),
+        None => Ok(()),
     }
 }
 
@@ -164,10 +178,7 @@ pub fn told<T: Display + Drop>(
     ensures { Tells answer result }
 {
     match answer {
-        Ok(text) => match print!(rt; "{text}{end}") {
-            Ok(()) => Ok(()),
-            Err(_) => Err(Stop::Output),
-        },
+        Ok(text) => print!(rt; "{text}{end}").map_err(|_| Stop::Output),
         Err(refusal) => {
             let _ = println!(rt; "{refusal}");
             Err(Stop::Refused(refusal))

@@ -1,15 +1,21 @@
 -- The loops that look for a bar.
-use Rattle.std.proofs.Common.{◌≡◌, ℕ, ◌+◌, ◌-◌, ◌*◌, ◌/◌, ◌%◌, ◌<◌, ◌≤◌, Bool, true, false, not, ◌&&◌, eqb, ltb, ◌⊎◌, List, get_or, sym, refl, ap, ◌∙◌, inl, inr, add-one, arith}
-use Rattle.std.proofs.lemmas.Bool.{both_ways, cases_eq, cases_Bool, and_left, and_right, and_from, ne_eqb, eq-eqb, not_from_false, not_from_true, lt-ltb, le-ltb, ltb-true}
-use Rattle.survey.specs.Survey.{pick, largest, many}
-use Rattle.survey.specs.Page.{Survey, Pattern, hidden, span, true_sum, need}
-use Rattle.survey.specs.Model.{model}
+use Rattle.std.proofs.Common.{◌≡◌, ℕ, ◌+◌, ◌-◌, ◌*◌, ◌/◌, ◌%◌, ◌^◌, ◌<◌, ◌≤◌, Bool, true, false, not, ◌&&◌, ◌||◌, eqb, leb, ltb, List, length, sum_by, get_or, sym, refl, ap, subst, ◌∙◌, inl, inr, arith}
+use Rattle.std.specs.Bool.{MatchBool}
+use Rattle.std.specs.List.{range_with_len, AllWithin, HoldsAt}
+use Rattle.std.proofs.lemmas.List.FromFn.{length-range_with_len, get_or-range_with_len}
+use Rattle.std.proofs.lemmas.Nat.{div-mul-add, mod-mul-add, mul-add-lt, mul-le, div-add-mod', div_below, mod_below}
+use Rattle.std.proofs.lemmas.Bool.{or_parts, leb-true, leb-false, both_ways, cases_Bool, and_left, and_right, and_from, ne_eqb, eq-eqb, not_from_false, not_from_true, lt-ltb, le-ltb, ltb-true}
+use Rattle.survey.specs.Survey.{largest, many}
+use Rattle.survey.specs.Page.{Survey, Pattern, hidden, true_sum, need}
+use Rattle.survey.specs.Model.{model, size}
 use Rattle.survey.specs.declared.checked.Survey as checked
 use Rattle.flow.proofs.Bounds.{sum_small}
 use Rattle.survey.specs.Promise.{Bar, may_give, leaves}
 use Rattle.survey.proofs.Cells.{pick_true, pick_false}
-use Rattle.survey.proofs.Spans.{span_none, span_suc}
-use Rattle.cut.specs.Barring.{Shut}
+use Rattle.survey.proofs.Spans.{span_cong}
+use Rattle.flow.specs.Closed.{Shut}
+use Rattle.cut.specs.Barring.{keeps, way_out}
+use Rattle.cut.proofs.Ranges.{in_order, at_most, by_rows}
 
 module _ (s : Survey) (h : Pattern) (c d : ℕ) where
   -- a printed cell gives nothing
@@ -40,134 +46,87 @@ module _ (s : Survey) (h : Pattern) (c d : ℕ) where
   ]
 
 module _ (s : Survey) (h : Pattern) (rs ks : List Bool) where
-  -- one cell is in order
-  abbrev pub Fine : ℕ → ℕ → Type 0
-  Fine r k = get_or rs r false ≡ false → get_or ks k false ≡ true → hidden h (r * s.columns + k) ≡ true → many (r * s.columns + k) s.cells ≤ 1
+  -- where each cell keeps them so the marked columns are shut
+  pub shut_kept : ((d : ℕ) → d < s.rows * s.columns → keeps s h rs ks d ≡ true) → Shut s h rs ks
+  shut_kept all r k p q a b t =
+      let row = ap (λ (i : ℕ). get_or rs i false) (div-mul-add r s.columns k q) ∙ a in
+      let column = ap (λ (i : ℕ). get_or ks i false) (mod-mul-add r s.columns k q) ∙ b in
+      leb-true _ 1 (last_of _ _ _ _ (all (r * s.columns + k) (omega (arith, mul-add-lt r s.columns k s.rows p q))) row column t)
+    where
+      last_of : (x y z w : Bool) → (x || (not y || (not z || w))) ≡ true → x ≡ false → y ≡ true → z ≡ true → w ≡ true
+      last_of x y z w e a b t = cc
 
-  -- the first i rows are
-  abbrev pub ShutRows : ℕ → Type 0
-  ShutRows i = (r k : ℕ) → r < i → k < s.columns → Fine r k
+  -- a cell that doesn't is enough
+  pub broken : 0 < s.columns → (d : ℕ) → d < s.rows * s.columns → keeps s h rs ks d ≡ false → Shut s h rs ks → ⊥
+  broken some d inside f shut =
+      let (a, (b, (t, many_left))) = all_of (get_or rs (d / s.columns) false) (get_or ks (d % s.columns) false) (hidden h d) (leb (many d s.cells) 1) f in
+      let place : d / s.columns * s.columns + d % s.columns ≡ d = div-add-mod' d s.columns in
+      omega (
+        arith,
+        shut (d / s.columns) (d % s.columns) (div_below d s.columns s.rows some inside) (mod_below d s.columns some) a b (ap (λ (i : ℕ). hidden h i) place ∙ t),
+        ap (λ (i : ℕ). many i s.cells) place,
+        leb-false _ 1 many_left,
+      )
+    where
+      turned : (x : Bool) → not x ≡ false → x ≡ true
+      turned true e = refl
+      turned false e = sym e
 
-  -- of row i the first j cells are
-  abbrev pub ShutCells : ℕ → ℕ → Type 0
-  ShutCells i j = (k : ℕ) → k < j → Fine i k
+      all_of : (x y z w : Bool) → (x || (not y || (not z || w))) ≡ false → (x ≡ false) × ((y ≡ true) × ((z ≡ true) × (w ≡ false)))
+      all_of x y z w e =
+          let (row, rest) = or_parts x _ e in
+          let (column, last) = or_parts (not y) _ rest in
+          let (blank, many_left) = or_parts (not z) w last in
+          (row, (turned y column, (turned z blank, many_left)))
 
-  pub shut_all : (i : ℕ) → s.rows ≤ i → ShutRows i → Shut s h rs ks
-  unfolding Shut
-  shut_all i end so_far r k p q = so_far r k (omega arith) q
+  -- the cells are gone through by number
+  range_at : (d : ℕ) → d < size s → get_or (range_with_len 0 (size s)) d 0 ≡ d
+  range_at d l = omega (arith, get_or-range_with_len 0 (size s) d 0 l)
 
-  -- one row more
-  pub shut_row : (i j : ℕ) → ShutRows i → ShutCells i j → s.columns ≤ j → ShutRows (i + 1)
-  shut_row i j so_far row end r k p q = elim (cases_eq r i) [
-    | inl same ↦ λ a b t. rw same (row k (omega arith) (rw (← same) a) b (rw (← same) t))
-    | inr off ↦ so_far r k (omega arith) q
+  -- what going through all cells tells
+  pub shut_told : (b : Bool) → 0 < s.columns →
+      MatchBool b (AllWithin (λ d. keeps s h rs ks d ≡ true) (range_with_len 0 (size s)) 0 (length (range_with_len 0 (size s))))
+      ((i : ℕ) × (i < length (range_with_len 0 (size s))) × HoldsAt (λ d. keeps s h rs ks d ≡ false) (range_with_len 0 (size s)) i) →
+      (b ≡ true → Shut s h rs ks) × (Shut s h rs ks → b ≡ true)
+  shut_told true some all = (
+    (λ _. shut_kept (λ d l. subst (λ i. keeps s h rs ks i ≡ true) (range_at d l) (all d 0 (omega arith) (omega (arith, length-range_with_len 0 (size s)))))),
+    λ _. refl,
+  )
+  shut_told false some (i, l, f) =
+      let inside : i < size s = omega (arith, length-range_with_len 0 (size s)) in (
+        (λ e. absurd (both_ways false refl e)),
+        λ shut. absurd (broken some i inside (subst (λ d. keeps s h rs ks d ≡ false) (range_at i inside) (f 0)) shut),
+      )
+
+module _ (t : checked.Survey) (h : Pattern) (c : ℕ) (rs ks : List Bool) where
+  -- what leaves by one cell is no large amount
+  way_small : (d : ℕ) → way_out (model t) h c rs ks d ≤ 20000000000000
+  way_small d = elim (cases_Bool (get_or rs (d / t.columns) false && not (get_or ks (d % t.columns) false))) [
+    | inl out ↦ omega (arith, pick_true {A = ℕ} _ (may_give (model t) h c d) 0 out, give_small (model t) h c d, sum_small t d)
+    | inr off ↦ omega (arith, pick_false {A = ℕ} _ (may_give (model t) h c d) 0 off)
   ]
 
-  -- a marked row is passed
-  pub shut_pass : (i : ℕ) → ShutRows i → get_or rs i false ≡ true → ShutRows (i + 1)
-  shut_pass i so_far marked r k p q = elim (cases_eq r i) [
-    | inl same ↦ λ a b t. absurd (both_ways _ (rw (← same) a) marked)
-    | inr off ↦ so_far r k (omega arith) q
-  ]
+  -- nor is what leaves by all cells
+  pub ways_fit : sum_by (way_out (model t) h c rs ks) (range_with_len 0 (size (model t))) < 2 ^ 64
+  ways_fit =
+      let few = mul-le t.rows t.columns 40 40 t.few_rows t.few_columns in
+      omega (arith, at_most (way_out (model t) h c rs ks) 20000000000000 (range_with_len 0 (size (model t))) way_small, length-range_with_len 0 (size (model t)), few)
 
-  -- one cell more
-  pub shut_cell : (i j : ℕ) → ShutCells i j → Fine i j → ShutCells i (j + 1)
-  shut_cell i j so_far fine k p = elim (cases_eq k j) [
-    | inl same ↦ λ a b t. rw same (fine a (rw (← same) b) (rw (← same) t))
-    | inr off ↦ so_far k (omega arith)
-  ]
-
-module _ (s : Survey) (h : Pattern) (c : ℕ) (rs ks : List Bool) where
-  -- what leaves by one cell
-  abbrev pub out : ℕ → ℕ → ℕ
-  out r k = pick (get_or rs r false && not (get_or ks k false)) (may_give s h c (r * s.columns + k)) 0
-
-  -- what leaves by the first i rows
-  abbrev pub out_rows : ℕ → ℕ
-  out_rows i = span (λ r. span (λ k. out r k) s.columns) i
-
-  -- and by the first j cells of row r
-  abbrev pub out_cells : ℕ → ℕ → ℕ
-  out_cells r j = span (λ k. out r k) j
-
-  pub out_start : 0 ≡ out_rows 0
-  out_start = sym (span_none _)
-
-  pub out_first : (r : ℕ) → 0 ≡ out_cells r 0
-  out_first r = sym (span_none _)
-
-  -- one cell more
-  pub out_cell : (r j : ℕ) → out_cells r (j + 1) ≡ out r j + out_cells r j
-  out_cell r j = rw (add-one j) (span_suc (λ k. out r k) j)
-
-  -- one row more
-  pub out_row : (i : ℕ) → out_rows (i + 1) ≡ out_cells i s.columns + out_rows i
-  out_row i = rw (add-one i) (span_suc (λ r. span (λ k. out r k) s.columns) i)
-
-  pub out_all : out_rows s.rows ≡ leaves s h c rs ks
+  -- cell by cell is row by row
+  pub ways_leave : sum_by (way_out (model t) h c rs ks) (range_with_len 0 (size (model t))) ≡ leaves (model t) h c rs ks
   unfolding leaves
-  out_all = refl
-
-  -- a cell by which something may leave
-  pub out_some : (r k : ℕ) → get_or rs r false ≡ true → get_or ks k false ≡ false → out r k ≡ may_give s h c (r * s.columns + k)
-  out_some r k t f = pick_true {A = ℕ} _ _ 0 (and_from _ _ t (not_from_false _ f))
-
-  -- one by which nothing may
-  pub out_inside : (r k : ℕ) → get_or rs r false ≡ false → out r k ≡ 0
-  out_inside r k f = pick_false {A = ℕ} _ _ 0 (and_left _ _ f)
-
-  pub out_marked : (r k : ℕ) → get_or ks k false ≡ true → out r k ≡ 0
-  out_marked r k t = pick_false {A = ℕ} _ _ 0 (and_right (get_or rs r false) _ (not_from_true _ t))
-
--- one blank cell of two workshops in a marked column outside the marked rows is enough; n is the number of columns as the
--- code has it
-pub not_shut : (s : Survey) (h : Pattern) (rs ks : List Bool) (r k n w : ℕ) (b : Bool) → n ≡ s.columns → r < s.rows → k < s.columns →
-    get_or rs r false ≡ false → get_or ks k false ≡ true → b ≡ hidden h (r * n + k) → b ≡ true → w ≡ many (r * n + k) s.cells → 1 < w →
-    Shut s h rs ks → ⊥
-unfolding Shut
-not_shut s h rs ks r k n w b e p q a m is t many_is two shut =
-    omega (
-      arith,
-      shut r k p q a m (sym (ap (λ (i : ℕ). hidden h (r * i + k)) e) ∙ sym is ∙ t),
-      ap (λ (i : ℕ). many (r * i + k) s.cells) e,
-    )
-
--- what a cell may give is no large amount
-pub give_bound : (t : checked.Survey) (h : Pattern) (c d : ℕ) → may_give (model t) h c d ≤ 20000000000000
-give_bound t h c d = omega (arith, give_small (model t) h c d, sum_small t d)
-
-module _ (s : Survey) (h : Pattern) (c : ℕ) (rs ks : List Bool) (r k left left' : ℕ)
-    (so_far : left ≡ out_cells s h c rs ks r k + out_rows s h c rs ks r) where
-  -- something leaves by the next cell
-  pub leaving_more : (n x : ℕ) → n ≡ s.columns → get_or rs r false ≡ true → get_or ks k false ≡ false → x ≡ may_give s h c (r * n + k) →
-      left' ≡ left + x → left' ≡ out_cells s h c rs ks r (k + 1) + out_rows s h c rs ks r
-  leaving_more n x e t f is more =
-      omega (arith, out_cell s h c rs ks r k, out_some s h c rs ks r k t f, ap (λ (i : ℕ). may_give s h c (r * i + k)) e)
-
-  -- nothing does
-  pub leaving_same : (get_or rs r false ≡ false) ⊎ (get_or ks k false ≡ true) → left' ≡ left →
-      left' ≡ out_cells s h c rs ks r (k + 1) + out_rows s h c rs ks r
-  leaving_same (inl f) same = omega (arith, out_cell s h c rs ks r k, out_inside s h c rs ks r k f)
-  leaving_same (inr t) same = omega (arith, out_cell s h c rs ks r k, out_marked s h c rs ks r k t)
-
-  -- a row is done
-  pub leaving_row : k ≡ s.columns → left ≡ out_rows s h c rs ks (r + 1)
-  leaving_row e = omega (arith, out_row s h c rs ks r, ap (λ (i : ℕ). out_cells s h c rs ks r i) e)
-
--- all rows are done
-pub leaving_all : (s : Survey) (h : Pattern) (c : ℕ) (rs ks : List Bool) (r left : ℕ) → left ≡ out_rows s h c rs ks r → r ≡ s.rows → left ≡ leaves s h c rs ks
-leaving_all s h c rs ks r left so_far e = so_far ∙ ap (λ (i : ℕ). out_rows s h c rs ks i) e ∙ out_all s h c rs ks
+  ways_leave =
+      in_order (way_out (model t) h c rs ks) (size (model t)) ∙ sym (by_rows (way_out (model t) h c rs ks) t.rows t.columns)
+      ∙ span_cong _ _ t.rows (λ r p. span_cong _ _ t.columns (λ k q. rw (div-mul-add r t.columns k q, mod-mul-add r t.columns k q) refl))
 
 module _ (s : Survey) (h : Pattern) (c : ℕ) (rs ks : List Bool) where
   -- a bar is shut
   pub bar_shut : Bar s h c rs ks → Shut s h rs ks
-  unfolding Shut
   bar_shut bar = bar.closed
 
   module _ (n left lacking : ℕ) (e : n ≡ s.columns) (is : left ≡ leaves s h c rs ks) (lacks : lacking ≡ need s c) where
     -- all its parts make a bar
     pub bar_made : get_or rs (c / n) false ≡ true → get_or ks (c % n) false ≡ false → Shut s h rs ks → ltb left lacking ≡ true → Bar s h c rs ks
-    unfolding Shut
     bar_made row column shut less = record {
       row = sym (ap (λ (i : ℕ). get_or rs (c / i) false) e) ∙ row;
       column = sym (ap (λ (i : ℕ). get_or ks (c % i) false) e) ∙ column;

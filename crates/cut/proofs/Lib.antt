@@ -2,6 +2,7 @@
 pub mod BarLaw
 mod Judged
 mod Leaving
+pub mod Ranges
 pub mod Least
 pub mod OneOrOther
 pub mod Scratched

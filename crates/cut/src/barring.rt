@@ -2,7 +2,8 @@
 ghost use Rattle.std.specs.Prelude.{◌≡◌, ℕ, ◌<◌, true};
 ghost use Rattle.survey.specs.Model.{model, size};
 ghost use Rattle.survey.specs.Promise.{Bar, may_give, leaves};
-ghost use Rattle.cut.specs.Barring.{Shut};
+ghost use Rattle.flow.specs.Closed.{Shut};
+ghost use Rattle.cut.specs.Barring.{keeps, way_out};
 
 use crate::finding::Cut;
 use crate::judging::is_blank;
@@ -22,43 +23,47 @@ fn may_give(table: &Table, pattern: &[bool], cell: usize, d: usize) -> u64
     profile.sum - profile.largest as u64
 }
 
+// Whether a cell keeps the marked columns shut: it lies in a marked row or in no marked column, is printed, or has one
+// workshop or none.
+fn keeps(table: &Table, pattern: &[bool], cut: &Cut, d: usize) -> bool
+    requires { d < size (model table.now.survey) }
+    ensures { result ≡ keeps (model table.now.survey) pattern.now cut.now.rows cut.now.columns d }
+{
+    let columns = table.survey().columns();
+    cut.rows[d / columns]
+        || !cut.columns[d % columns]
+        || !is_blank(pattern, d)
+        || table.profile(d).workshops <= 1
+}
+
 // Whether no blank cell of two workshops or more lies in a marked column outside the marked rows.
 fn is_shut(table: &Table, pattern: &[bool], cut: &Cut) -> bool
     ensures sound { result ≡ true → Shut (model table.now.survey) pattern.now cut.now.rows cut.now.columns }
     ensures whole { Shut (model table.now.survey) pattern.now cut.now.rows cut.now.columns → result ≡ true }
 {
-    let rows = table.survey().rows();
+    (0..table.survey().cells()).all(|d| keeps(table, pattern, cut, d))
+}
+
+// What may leave by one cell: what it may give, where it lies in a marked row and in no marked column.
+fn way_out(table: &Table, pattern: &[bool], cell: usize, cut: &Cut, d: usize) -> u64
+    requires { d < size (model table.now.survey) }
+    ensures { result ≡ way_out (model table.now.survey) pattern.now cell cut.now.rows cut.now.columns d }
+{
     let columns = table.survey().columns();
-    for r in 0..rows {
-        if !cut.rows[r] {
-            for k in 0..columns {
-                if cut.columns[k]
-                    && is_blank(pattern, r * columns + k)
-                    && table.profile(r * columns + k).workshops > 1
-                {
-                    return false;
-                }
-            }
-        }
+    if cut.rows[d / columns] && !cut.columns[d % columns] {
+        may_give(table, pattern, cell, d)
+    } else {
+        0
     }
-    true
 }
 
 // What may leave the marked rows through cells outside the marked columns.
 fn leaving(table: &Table, pattern: &[bool], cell: usize, cut: &Cut) -> u64
     ensures { result ≡ leaves (model table.now.survey) pattern.now cell cut.now.rows cut.now.columns }
 {
-    let rows = table.survey().rows();
-    let columns = table.survey().columns();
-    let mut left: u64 = 0;
-    for r in 0..rows {
-        for k in 0..columns {
-            if cut.rows[r] && !cut.columns[k] {
-                left += may_give(table, pattern, cell, r * columns + k);
-            }
-        }
-    }
-    left
+    (0..table.survey().cells())
+        .map(|d| way_out(table, pattern, cell, cut, d))
+        .sum()
 }
 
 // Whether a cut bars a cell. One that lacks nothing, as each past the table, nothing bars.

@@ -1,6 +1,6 @@
 // What is found of one cell: a witness that it is protected, or the least cut that bars it.
 
-// Marked rows and columns, of a table of forty by forty at most.
+// Marked rows and columns, of a table of forty by forty at most, kept by value: a cut outlives the memory it was found in.
 #[derive(Clone, Copy, Debug, PartialEq, Eq)]
 pub struct Cut {
     pub rows: [bool; 40],

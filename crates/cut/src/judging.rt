@@ -13,15 +13,11 @@ use survey::refusal::Refusal;
 pub(crate) fn is_blank(pattern: &[bool], cell: usize) -> bool
     ensures { result ≡ hidden pattern.now cell }
 {
-    if cell < pattern.len() {
-        pattern[cell]
-    } else {
-        false
-    }
+    pattern.get(cell).copied().unwrap_or(false)
 }
 
 // Other cell sums that give the same page and protect the cell, in the memory lent, or the least cut that shows that there
-// are none. A cell that is printed and lacks something has neither.
+// are none. A cell that is printed and lacks something has neither. The slices stand apart, as `raise` takes them.
 pub fn witness_or_cut(
     table: &Table,
     pattern: &[bool],
@@ -40,6 +36,7 @@ pub fn witness_or_cut(
     if flow.lacking == 0 {
         return Ok(Finding::Shown);
     }
+    // an array of a struct goes into another one by way of a variable: the borrow checker asks for it
     let rows = flow.rows;
     let columns = flow.columns;
     Ok(Finding::Barred(Cut { rows, columns }))

@@ -1,9 +1,9 @@
 -- The walk back by the parents, step by step.
-use Rattle.std.proofs.Common.{◌≡◌, ℕ, zero, suc, ◌+◌, ◌-◌, ◌*◌, ◌%◌, ◌^◌, ◌<◌, ◌≤◌, min, true, List, length, get_or, set, sym, refl, ap, ◌∙◌, subst, arith}
+use Rattle.std.proofs.Common.{◌≡◌, ℕ, zero, suc, ◌+◌, ◌-◌, ◌*◌, ◌%◌, ◌^◌, ◌<◌, ◌≤◌, min, true, List, length, get_or, set, Some, is_some, sym, refl, ap, ◌∙◌, subst, arith}
 use Rattle.survey.specs.Page.{Survey, Pattern}
 use Rattle.flow.specs.Ways.{spare, parent_row, falling, column_before, rising, room, add_at, fallen, risen, way_left, way_level, carried, next_falls, next_rises}
 use Rattle.flow.specs.Afoot.{Afoot}
-use Rattle.flow.specs.Searching.{Trail, Searched}
+use Rattle.flow.specs.Searching.{parents, Trail, Searched}
 use Rattle.flow.specs.declared.search.Search.{Search}
 use Rattle.flow.proofs.Moves.{length_add_at}
 use Rattle.flow.proofs.Reach.{OnWay, parent_inside, rising_inside, on_before, way_on}
@@ -80,12 +80,12 @@ module _ (s : Survey) (h : Pattern) (c : ℕ) (y : ℕ → ℕ) (rp cp : List �
     last_rise x rises = refl
 
 -- the way that was found: the walk starts at its end
-pub stands_first : (s : Survey) (h : Pattern) (c : ℕ) (y : ℕ → ℕ) (q : Search) → 0 < s.columns → Searched s h c y q → q.found ≡ true →
-    Stands s h c y q.row_parent q.column_parent q.level (c % s.columns)
-stands_first s h c y q some searched found = record {
-  on = subst (λ l. OnWay s h c y l (c % s.columns)) (sym (searched.level found)) (way_on s h c y some (sym searched.found ∙ found));
-  trail = searched.trail found;
-}
+pub stands_first : (s : Survey) (h : Pattern) (c : ℕ) (y : ℕ → ℕ) (q : Search) (n l : ℕ) → 0 < s.columns → Searched s h c y q → q.level ≡ Some n → l ≡ n →
+    Stands s h c y (parents q.rows) (parents q.columns) l (c % s.columns)
+stands_first s h c y q n l some searched found is = rw is (record {
+  on = subst (λ l. OnWay s h c y l (c % s.columns)) (sym (searched.level n found)) (way_on s h c y some (sym searched.found ∙ ap is_some found));
+  trail = searched.trail n found;
+})
 
 module _ (s : Survey) (h : Pattern) (c : ℕ) (y : ℕ → ℕ) (rp cp : List ℕ) where
   -- the first pass: what is left of the way, and the least so far, make what the way carries
@@ -105,21 +105,21 @@ module _ (s : Survey) (h : Pattern) (c : ℕ) (y : ℕ → ℕ) (rp cp : List �
   })
 
   module _ (lacking l k most : ℕ) (so_far : Measures lacking l k most) where
-    pub measures_next : (d x most' : ℕ) → 0 < l → d ≡ get_or cp k 0 * s.columns + k → x ≡ spare s y d → most' ≡ min most x →
-        Measures lacking (l - 1) (get_or rp (get_or cp k 0) 0) most'
-    measures_next d x most' p at is least =
+    pub measures_next : (r d x most' j m : ℕ) → 0 < l → r ≡ get_or cp k 0 → d ≡ r * s.columns + k → x ≡ spare s y d → most' ≡ min most x →
+        j ≡ get_or rp r 0 → m ≡ l - 1 → Measures lacking m j most'
+    measures_next r d x most' j m p from at is least back less =
         let step = steps s h c y rp cp l k p so_far.stands in
-        record {
+        rw (less, back, from) (record {
           stands = step.next;
           column = step.next.on.inside;
           row = parent_below s h c y rp cp _ _ step.next;
-          rest = omega (arith, so_far.rest, step.room_is, ap (λ (i : ℕ). spare s y i) at);
-        }
+          rest = omega (arith, so_far.rest, step.room_is, ap (λ (i : ℕ). spare s y i) (at ∙ ap (λ (i : ℕ). i * s.columns + k) from));
+        })
 
-    pub measures_last : (d x most' : ℕ) → l ≡ 0 → d ≡ get_or cp k 0 * s.columns + k → x ≡ spare s y d → most' ≡ min most x → most' ≡ carried s h c y lacking
-    measures_last d x most' e at is least =
+    pub measures_last : (r d x most' : ℕ) → l ≡ 0 → r ≡ get_or cp k 0 → d ≡ r * s.columns + k → x ≡ spare s y d → most' ≡ min most x → most' ≡ carried s h c y lacking
+    measures_last r d x most' e from at is least =
         let st : Stands s h c y rp cp 0 k = subst (λ i. Stands s h c y rp cp i k) e so_far.stands in
-        omega (arith, so_far.rest, last_room s h c y rp cp k st, ap (λ (i : ℕ). room s h c y i k) e, ap (λ (i : ℕ). spare s y i) at)
+        omega (arith, so_far.rest, last_room s h c y rp cp k st, ap (λ (i : ℕ). room s h c y i k) e, ap (λ (i : ℕ). spare s y i) (at ∙ ap (λ (i : ℕ). i * s.columns + k) from))
 
   -- the second pass: the rest of the walk makes the whole walk's result
   pub record Carries (x l k : ℕ) (falls₀ rises₀ falls rises : List ℕ) : Type 0 where
@@ -162,13 +162,10 @@ module _ (s : Survey) (h : Pattern) (c : ℕ) (y : ℕ → ℕ) (rp cp : List �
     pub column_next : 0 < l → get_or rp (get_or cp k 0) 0 < s.columns
     column_next p = (steps s h c y rp cp l k p so_far.stands).next.on.inside
 
-    pub carries_next : (d e : ℕ) → 0 < l → d ≡ get_or cp k 0 * s.columns + k → e ≡ get_or cp k 0 * s.columns + get_or rp (get_or cp k 0) 0 →
-        Carries x (l - 1) (get_or rp (get_or cp k 0) 0) falls₀ rises₀ (set falls d (get_or falls d 0 + x)) (set rises e (get_or rises e 0 + x))
+    pub carries_next : (r d e j m : ℕ) → 0 < l → r ≡ get_or cp k 0 → d ≡ r * s.columns + k → j ≡ get_or rp r 0 → e ≡ r * s.columns + j → m ≡ l - 1 →
+        Carries x m j falls₀ rises₀ (set falls d (get_or falls d 0 + x)) (set rises e (get_or rises e 0 + x))
     unfolding add_at
-    carries_next d e p at at' =
-        subst (λ i. Carries x (l - 1) (get_or rp (get_or cp k 0) 0) falls₀ rises₀ (set falls i (get_or falls i 0 + x)) (set rises e (get_or rises e 0 + x))) (sym at)
-        (subst (λ i. Carries x (l - 1) (get_or rp (get_or cp k 0) 0) falls₀ rises₀ (add_at falls (get_or cp k 0 * s.columns + k) x) (set rises i (get_or rises i 0 + x))) (sym at')
-        (carries_step p))
+    carries_next r d e j m p from at back at' less = rw (less, at, at', back, from) (carries_step p)
 
     module _ (e : l ≡ 0) where
       last_stands : Stands s h c y rp cp 0 k

@@ -1,7 +1,7 @@
 -- Lists that are filled from the front.
-use Rattle.std.proofs.Common.{◌≡◌, ℕ, ◌+◌, ◌-◌, ◌<◌, ◌≤◌, List, ◌++◌, length, get_or, drop, set, replicate, sym, refl, ap, ◌∙◌, subst, inl, inr, arith}
+use Rattle.std.proofs.Common.{◌≡◌, ℕ, ◌+◌, ◌-◌, ◌<◌, ◌≤◌, List, ◌++◌, length, get_or, drop, set, sym, ap, ◌∙◌, subst, inl, inr, arith}
 use borrow.Rule.Slice.PartMut.{post_of}
-use Rattle.std.proofs.lemmas.List.{length-replicate, get_or-replicate, get_or-set_same, get_or-set_other, ext_get_or, length-append, length-drop, get_or_append_left, get_or-append_right, get_or-drop}
+use Rattle.std.proofs.lemmas.List.{get_or-set_same, get_or-set_other, length-append, length-drop, get_or_append_left, get_or-append_right, get_or-drop}
 use Rattle.std.proofs.lemmas.Bool.{cases_eq}
 use Rattle.survey.specs.Lending.{Written}
 
@@ -17,16 +17,6 @@ first_more f n xs v so_far room is d l = elim (cases_eq d n) [
   | inl same ↦ rw same (get_or-set_same xs n v 0 room ∙ is)
   | inr other ↦ get_or-set_other xs n d v 0 other ∙ so_far d (omega arith)
 ]
-
--- one more entry is cleared
-pub cleared_more : (n : ℕ) (xs : List ℕ) → First (λ _. 0) n xs → n < length xs → First (λ _. 0) (n + 1) (set xs n 0)
-cleared_more n xs so_far room = first_more (λ _. 0) n xs 0 so_far room refl
-
--- all entries are cleared
-pub cleared_all : (n m : ℕ) (xs : List ℕ) → First (λ _. 0) n xs → length xs ≤ n → length xs ≡ m → xs ≡ replicate m 0
-cleared_all n m xs all end long =
-    ext_get_or 0 xs (replicate m 0) (long ∙ sym (length-replicate m 0))
-    (λ i l. all i (omega arith) ∙ sym (get_or-replicate m i 0 0 (omega arith)))
 
 -- the front part was written, and the rest is as before: m is the part's length as the code has it
 pub written_front : (f : ℕ → ℕ) (n m : ℕ) (before new : List ℕ) → n ≤ length before → m ≡ n → length new ≡ n → First f n new →

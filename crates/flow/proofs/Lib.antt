@@ -11,6 +11,7 @@ pub mod Partial
 pub mod Stuck
 pub mod Runs
 mod Filled
+mod Steps
 mod Scanning
 mod Tests
 mod Rounds

@@ -1,11 +1,11 @@
 -- A run in the middle, as the loop of ways has it.
-use Rattle.std.proofs.Common.{◌≡◌, ℕ, zero, suc, ◌+◌, ◌-◌, ◌<◌, ◌≤◌, Bool, true, false, not, eqb, List, length, get_or, replicate, sym, refl, ap, ◌∙◌, subst, arith}
+use Rattle.std.proofs.Common.{◌≡◌, ℕ, zero, suc, ◌+◌, ◌-◌, ◌<◌, ◌≤◌, Bool, true, false, None, is_some, List, length, get_or, replicate, sym, refl, ap, ◌∙◌, subst, arith}
 use Rattle.std.proofs.lemmas.List.{length-replicate, get_or-replicate}
 use Rattle.survey.specs.Page.{Survey, Pattern, true_sum, need}
 use Rattle.survey.specs.Model.{size}
 use Rattle.flow.specs.Afoot.{Afoot}
 use Rattle.flow.specs.Raising.{Marked}
-use Rattle.flow.specs.Searching.{never, Searched}
+use Rattle.flow.specs.Searching.{Searched}
 use Rattle.flow.specs.declared.raising.Flow.{Flow}
 use Rattle.flow.specs.declared.search.Search.{Search}
 use Rattle.flow.specs.Ways.{Run, standing, way_left, carried, next_falls, next_rises}
@@ -106,9 +106,9 @@ module _ (s : Survey) (h : Pattern) (c : ℕ) (sums : List ℕ) (some : 0 < s.co
 
 module _ (s : Survey) (h : Pattern) (c : ℕ) (y : ℕ → ℕ) where
   -- the marks where no way is left
-  pub marked_stuck : (q : Search) (flow : Flow) → Searched s h c y q → q.found ≡ false → 0 < flow.lacking → length flow.rows ≡ 40 → length flow.columns ≡ 40 →
-      ((i : ℕ) → i < 40 → get_or flow.rows i false ≡ not (eqb (get_or q.row_round i 0) never)) →
-      ((i : ℕ) → i < 40 → get_or flow.columns i false ≡ not (eqb (get_or q.column_round i 0) never)) → Marked s h c y flow
+  pub marked_stuck : (q : Search) (flow : Flow) → Searched s h c y q → q.level ≡ None → 0 < flow.lacking → length flow.rows ≡ 40 → length flow.columns ≡ 40 →
+      ((i : ℕ) → i < 40 → get_or flow.rows i false ≡ is_some (get_or q.rows i None)) →
+      ((i : ℕ) → i < 40 → get_or flow.columns i false ≡ is_some (get_or q.columns i None)) → Marked s h c y flow
   marked_stuck q flow searched f p long long' rows columns = record {
     long_rows = long;
     long_columns = long';

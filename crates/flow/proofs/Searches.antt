@@ -1,77 +1,94 @@
 -- A search from round to round, and what it leaves.
-use Rattle.std.proofs.Common.{◌≡◌, ℕ, zero, suc, ◌+◌, ◌*◌, ◌/◌, ◌%◌, ◌<◌, ◌≤◌, Bool, true, false, not, eqb, leb, ◌≢◌, ◌⊎◌, List, length, get_or, set, replicate, sym, refl, ap, ◌∙◌, subst, inl, inr, add-one, arith}
+use Rattle.std.proofs.Common.{◌≡◌, ℕ, zero, suc, ◌+◌, ◌*◌, ◌/◌, ◌%◌, ◌<◌, ◌≤◌, Bool, true, false, not, eqb, leb, ◌≢◌, ◌⊎◌, List, length, get_or, set, replicate, Some, None, Option, is_some, sym, refl, ap, ◌∙◌, subst, inl, inr, add-one, arith}
 use Rattle.std.proofs.lemmas.List.{length-set, length-replicate, get_or-replicate, get_or-set_same, get_or-set_other, get_or_past}
 use Rattle.std.proofs.lemmas.List.FromFn.{length-map-range_with_len}
 use Rattle.std.proofs.lemmas.Bool.{both_ways, cases_eq, cases_lt, eq-eqb, ne_eqb, eqb-true, leb-true, le-leb, lt-leb, not_from_true, not_from_false}
 use Rattle.std.proofs.lemmas.Nat.{div_below, mod_below}
 use Rattle.survey.specs.Page.{Survey, Pattern}
 use Rattle.flow.specs.Ways.{marks, row_reached, column_reached, way_left, way_level, parent_row, reached_rows, reached_columns}
-use Rattle.flow.specs.Searching.{never, Spread, Trail, Searched}
+use Rattle.flow.specs.Searching.{never, rounds, parents, Spread, Trail, Searched}
 use Rattle.flow.specs.declared.search.Search.{Search}
+use Rattle.flow.specs.declared.step.Step.{Step}
 use Rattle.flow.proofs.Below.{any_below_from, any_below_has, any_below_none, false_since, Least, least_one, least_cong}
 use Rattle.flow.proofs.Reach.{OnWay, column_from}
 use Rattle.flow.proofs.Settled.{Settled, settled, rows_within, columns_within, unsettled_below}
 use Rattle.flow.proofs.Stuck.{row_mark, column_mark}
 use Rattle.flow.proofs.Tests.{can_rise_in, can_fall_in, in_round}
+use Rattle.flow.proofs.Steps.{length-rounds, rounds_set, parents_set, some_known}
 use Rattle.flow.proofs.Scanning.{Scan, scan_start, scan_idle, scan_next, scan_skip, scan_mark, scan_end, some_reached}
 use Rattle.flow.proofs.Rounds.{Rows, Columns, RowFrom, ColumnFrom, side_free, same_columns, columns_next, rows_next}
 use Rattle.flow.proofs.Trails.{trail_here}
 
+-- how rows and columns were reached, as lists: the rounds and where from
+pub record Lists : Type 0 where
+  pub row_round : List ℕ
+  pub row_parent : List ℕ
+  pub column_round : List ℕ
+  pub column_parent : List ℕ
+
+-- the lists of what a search has in its middle
+abbrev pub lists : (rows columns : List (Option Step)) → Lists
+lists rows columns = record {
+  row_round = rounds rows;
+  row_parent = parents rows;
+  column_round = rounds columns;
+  column_parent = parents columns;
+}
+
 -- what is known of a search before round n
-pub record Round (s : Survey) (h : Pattern) (c : ℕ) (y : ℕ → ℕ) (n : ℕ) (q : Search) : Type 0 where
+pub record Round (s : Survey) (h : Pattern) (c : ℕ) (y : ℕ → ℕ) (n : ℕ) (q : Lists) : Type 0 where
   pub rows : Rows s h c y (suc n) q.row_round q.row_parent
   pub columns : Columns s h c y n q.column_round q.column_parent
   pub below : n < s.rows
   pub target : get_or q.column_round (c % s.columns) 0 ≡ never
-  pub lost : q.found ≡ false
 
 -- a round in the middle, that began at q₀: i rows are done, and of the next one j columns
-pub record Going (s : Survey) (h : Pattern) (c : ℕ) (y : ℕ → ℕ) (n i j : ℕ) (q₀ q : Search) : Type 0 where
+pub record Going (s : Survey) (h : Pattern) (c : ℕ) (y : ℕ → ℕ) (n i j : ℕ) (q₀ q : Lists) : Type 0 where
   pub scan : Scan (can_fall_in s h c y) (in_round q₀.row_round n) s.rows s.columns n q₀.column_round q₀.column_parent
       i j q.column_round q.column_parent
   pub row_round : q.row_round ≡ q₀.row_round
   pub row_parent : q.row_parent ≡ q₀.row_parent
-  pub lost : q.found ≡ q₀.found
   pub target : get_or q.column_round (c % s.columns) 0 ≡ never
 
--- the search with column j reached in round n from row i
-abbrev pub reaches : Search → ℕ → ℕ → ℕ → Search
+-- the lists with column j reached in round n from row i
+abbrev pub reaches : Lists → ℕ → ℕ → ℕ → Lists
 reaches q n i j = record {
-  found = q.found;
-  level = q.level;
   row_round = q.row_round;
   row_parent = q.row_parent;
   column_round = set q.column_round j n;
   column_parent = set q.column_parent j i;
 }
 
--- the search with its way found in round n
-abbrev pub finds : Search → ℕ → Search
-finds q n = record {
-  found = true;
-  level = n;
-  row_round = q.row_round;
-  row_parent = q.row_parent;
-  column_round = q.column_round;
-  column_parent = q.column_parent;
-}
-
--- the search with these rows
-abbrev pub with_rows : Search → List ℕ → List ℕ → Search
+-- the lists with these rows
+abbrev pub with_rows : Lists → List ℕ → List ℕ → Lists
 with_rows q rounds parents = record {
-  found = q.found;
-  level = q.level;
   row_round = rounds;
   row_parent = parents;
   column_round = q.column_round;
   column_parent = q.column_parent;
 }
 
+-- a way is left, by these lists and after so many rises
+pub record Leads (s : Survey) (h : Pattern) (c : ℕ) (y : ℕ → ℕ) (n : ℕ) (q : Lists) : Type 0 where
+  pub long_rows : length q.row_round ≡ 40
+  pub long_columns : length q.column_round ≡ 40
+  pub left : way_left s h c y ≡ true
+  pub level : n ≡ way_level s h c y
+  pub trail : Trail s h c y q.row_parent q.column_parent n (c % s.columns)
+
+-- no way is left, and these lists have all that is reached
+pub record Stuck (s : Survey) (h : Pattern) (c : ℕ) (y : ℕ → ℕ) (q : Lists) : Type 0 where
+  pub long_rows : length q.row_round ≡ 40
+  pub long_columns : length q.column_round ≡ 40
+  pub left : way_left s h c y ≡ false
+  pub rows : (i : ℕ) → i < 40 → not (eqb (get_or q.row_round i 0) never) ≡ get_or (reached_rows s h c y) i false
+  pub columns : (i : ℕ) → i < 40 → not (eqb (get_or q.column_round i 0) never) ≡ get_or (reached_columns s h c y) i false
+
 module _ (s : Survey) (h : Pattern) (c : ℕ) (y : ℕ → ℕ) (some : 0 < s.columns) (inside : c < s.rows * s.columns)
     (few : s.rows ≤ 40) (few_columns : s.columns ≤ 40) where
   -- the first round
-  module _ (q : Search) (is_rows : q.row_round ≡ set (replicate 40 never) (c / s.columns) 0) (long : length q.row_parent ≡ 40)
-      (is_columns : q.column_round ≡ replicate 40 never) (long_columns : length q.column_parent ≡ 40) (lost : q.found ≡ false) where
+  module _ (q : Lists) (is_rows : q.row_round ≡ set (replicate 40 never) (c / s.columns) 0) (long : length q.row_parent ≡ 40)
+      (is_columns : q.column_round ≡ replicate 40 never) (long_columns : length q.column_parent ≡ 40) where
     own_inside : c / s.columns < s.rows
     own_inside = div_below c s.columns s.rows some inside
 
@@ -120,14 +137,13 @@ module _ (s : Survey) (h : Pattern) (c : ℕ) (y : ℕ → ℕ) (some : 0 < s.co
       };
       below = omega (arith, own_inside);
       target = no_column _ (omega (arith, mod_below c s.columns some));
-      lost = lost;
     }
 
-  module _ (n : ℕ) (q₀ : Search) where
+  module _ (n : ℕ) (q₀ : Lists) where
     pub going_start : Round s h c y n q₀ → Going s h c y n 0 0 q₀ q₀
-    going_start round = record { scan = scan_start _ _ _ _ _ _ _; row_round = refl; row_parent = refl; lost = refl; target = round.target }
+    going_start round = record { scan = scan_start _ _ _ _ _ _ _; row_round = refl; row_parent = refl; target = round.target }
 
-    module _ (i j : ℕ) (q : Search) (going : Going s h c y n i j q₀ q) where
+    module _ (i j : ℕ) (q : Lists) (going : Going s h c y n i j q₀ q) where
       -- the scan goes on, and nothing else has changed
       going_on : (i' j' : ℕ) → Scan (can_fall_in s h c y) (in_round q₀.row_round n) s.rows s.columns n q₀.column_round q₀.column_parent
           i' j' q.column_round q.column_parent → Going s h c y n i' j' q₀ q
@@ -135,7 +151,6 @@ module _ (s : Survey) (h : Pattern) (c : ℕ) (y : ℕ → ℕ) (some : 0 < s.co
         scan = scan;
         row_round = going.row_round;
         row_parent = going.row_parent;
-        lost = going.lost;
         target = going.target;
       }
 
@@ -161,7 +176,6 @@ module _ (s : Survey) (h : Pattern) (c : ℕ) (y : ℕ → ℕ) (some : 0 < s.co
           scan = marked;
           row_round = going.row_round;
           row_parent = going.row_parent;
-          lost = going.lost;
           target = get_or-set_other q.column_round j (c % s.columns) n 0 (λ e. off (sym e)) ∙ going.target;
         }
 
@@ -213,18 +227,14 @@ module _ (s : Survey) (h : Pattern) (c : ℕ) (y : ℕ → ℕ) (some : 0 < s.co
           trail_j = trail_here s h c y n _ _ _ _ _ (omega (arith, round.below)) round.rows round.columns
               (λ k off. (marked.kept k (inl off)).1) j on_here parent_here
 
-          pub way_found : Searched s h c y (finds (reaches q n i j) n)
+          pub way_found : Leads s h c y n (reaches q n i j)
           way_found = record {
-            long_row_round = ap length going.row_round ∙ round.rows.long;
-            long_row_parent = ap length going.row_parent ∙ round.rows.long_parents;
-            long_column_round = marked.long ∙ round.columns.long;
-            long_column_parent = marked.long_parents ∙ round.columns.long_parents;
-            found = sym left_here;
-            level = λ _. sym level_here;
-            trail = λ _. subst (λ k. Trail s h c y q.row_parent (set q.column_parent j i) n k) here
+            long_rows = ap length going.row_round ∙ round.rows.long;
+            long_columns = marked.long ∙ round.columns.long;
+            left = left_here;
+            level = sym level_here;
+            trail = subst (λ k. Trail s h c y q.row_parent (set q.column_parent j i) n k) here
                 (subst (λ (l : List ℕ). Trail s h c y l (set q.column_parent j i) n j) (sym going.row_parent) trail_j);
-            rows = λ e. absurd (both_ways true e refl);
-            columns = λ e. absurd (both_ways true e refl);
           }
 
       -- the round's columns are all reached
@@ -260,7 +270,6 @@ module _ (s : Survey) (h : Pattern) (c : ℕ) (y : ℕ → ℕ) (some : 0 < s.co
                     (rows_done.known (suc n) r (omega arith) l ∙ le-leb _ (suc n) (omega arith))
                     (rows_done.known n r (omega arith) l ∙ lt-leb _ n (omega arith));
                 target = going.target;
-                lost = going.lost ∙ round.lost;
               })
 
           -- no row is new: all is reached
@@ -313,32 +322,70 @@ module _ (s : Survey) (h : Pattern) (c : ℕ) (y : ℕ → ℕ) (some : 0 < s.co
                       (columns_within s h c y n still s.rows k t)))
                 ]
 
-            pub no_way_found : Searched s h c y (with_rows q rr rp)
+            pub no_way_found : Stuck s h c y (with_rows q rr rp)
             no_way_found = record {
-              long_row_round = rows_done.long;
-              long_row_parent = rows_done.long_parents;
-              long_column_round = columns_done.long;
-              long_column_parent = columns_done.long_parents;
-              found = going.lost ∙ round.lost ∙ sym left_none;
-              level = λ e. absurd (both_ways _ (going.lost ∙ round.lost) e);
-              trail = λ e. absurd (both_ways _ (going.lost ∙ round.lost) e);
-              rows = λ _. row_marks;
-              columns = λ _. column_marks;
+              long_rows = rows_done.long;
+              long_columns = columns_done.long;
+              left = left_none;
+              rows = row_marks;
+              columns = column_marks;
             }
 
--- the same steps where the search goes by another name afterwards
-pub going_as : (s : Survey) (h : Pattern) (c : ℕ) (y : ℕ → ℕ) (n i j : ℕ) (q₀ q q' : Search) → q' ≡ q → Going s h c y n i j q₀ q → Going s h c y n i j q₀ q'
-going_as s h c y n i j q₀ q q' is going = subst (λ (x : Search). Going s h c y n i j q₀ x) (sym is) going
+-- the same steps where the lists go by another name afterwards
+pub going_as : (s : Survey) (h : Pattern) (c : ℕ) (y : ℕ → ℕ) (n i j : ℕ) (q₀ q q' : Lists) → q' ≡ q → Going s h c y n i j q₀ q → Going s h c y n i j q₀ q'
+going_as s h c y n i j q₀ q q' is going = subst (λ (x : Lists). Going s h c y n i j q₀ x) (sym is) going
 
--- how long the lists of a search are while a round goes on
-pub going_long : (s : Survey) (h : Pattern) (c : ℕ) (y : ℕ → ℕ) (n i j : ℕ) (q₀ q : Search) → Round s h c y n q₀ → Going s h c y n i j q₀ q →
-    (length q.row_round ≡ 40) × (length q.column_round ≡ 40) × (length q.column_parent ≡ 40)
-going_long s h c y n i j q₀ q round going = (
-  ap length going.row_round ∙ round.rows.long,
-  going.scan.long ∙ round.columns.long,
-  going.scan.long_parents ∙ round.columns.long_parents,
-)
+-- the lists once a column has a step more
+pub reaches_column : (rows columns columns' : List (Option Step)) (j : ℕ) (step : Step) → columns' ≡ set columns j (Some step) →
+    lists rows columns' ≡ reaches (lists rows columns) step.round step.from j
+reaches_column rows columns columns' j step is =
+    ap (lists rows) is
+    ∙ ap (λ (l : List ℕ). with_columns l (parents (set columns j (Some step)))) (rounds_set columns j (Some step))
+    ∙ ap (λ (l : List ℕ). with_columns (set (rounds columns) j step.round) l) (parents_set columns j (Some step))
+  where
+    with_columns : List ℕ → List ℕ → Lists
+    with_columns first second = record {
+      row_round = rounds rows;
+      row_parent = parents rows;
+      column_round = first;
+      column_parent = second;
+    }
 
 -- whether a way is left, by what the search says
-pub left_by : (s : Survey) (h : Pattern) (c : ℕ) (y : ℕ → ℕ) (q : Search) (b : Bool) → Searched s h c y q → q.found ≡ b → way_left s h c y ≡ b
+pub left_by : (s : Survey) (h : Pattern) (c : ℕ) (y : ℕ → ℕ) (q : Search) (b : Bool) → Searched s h c y q → is_some q.level ≡ b → way_left s h c y ≡ b
 left_by s h c y q b searched e = sym searched.found ∙ e
+
+-- a search that ends with a way
+pub searched_way : (s : Survey) (h : Pattern) (c : ℕ) (y : ℕ → ℕ) (n : ℕ) (rows columns : List (Option Step)) (q : Lists) →
+    lists rows columns ≡ q → Leads s h c y n q → Searched s h c y (record { level = Some n; rows = rows; columns = columns })
+searched_way s h c y n rows columns q is way = let leads = subst (λ (x : Lists). Leads s h c y n x) (sym is) way in record {
+  long_rows = length-rounds rows ∙ leads.long_rows;
+  long_columns = length-rounds columns ∙ leads.long_columns;
+  found = sym leads.left;
+  level = λ m e. sym (some_is e) ∙ leads.level;
+  trail = λ m e. subst (λ i. Trail s h c y (parents rows) (parents columns) i (c % s.columns)) (some_is e) leads.trail;
+  rows = λ e. absurd (none_of e);
+  columns = λ e. absurd (none_of e);
+}
+  where
+    some_is : {m k : ℕ} → Some m ≡ Some k → m ≡ k
+    some_is e = cc
+
+    none_of : {m : ℕ} → Some m ≡ None → ⊥
+    none_of e = cc
+
+-- a search that ends with none
+pub searched_none : (s : Survey) (h : Pattern) (c : ℕ) (y : ℕ → ℕ) (rows columns : List (Option Step)) →
+    Stuck s h c y (lists rows columns) → Searched s h c y (record { level = None; rows = rows; columns = columns })
+searched_none s h c y rows columns stuck = record {
+  long_rows = length-rounds rows ∙ stuck.long_rows;
+  long_columns = length-rounds columns ∙ stuck.long_columns;
+  found = sym stuck.left;
+  level = λ m e. absurd (none_of e);
+  trail = λ m e. absurd (none_of e);
+  rows = λ _ i l. some_known rows i (omega (arith, length-rounds rows, stuck.long_rows)) ∙ stuck.rows i l;
+  columns = λ _ i l. some_known columns i (omega (arith, length-rounds columns, stuck.long_columns)) ∙ stuck.columns i l;
+}
+  where
+    none_of : {m : ℕ} → None ≡ Some m → ⊥
+    none_of e = cc

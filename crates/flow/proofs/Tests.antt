@@ -15,12 +15,12 @@ can_fall_in s h c y r k = can_fall s h c y (r * s.columns + k)
 abbrev pub in_round : List ℕ → ℕ → ℕ → Bool
 in_round rounds n x = eqb (get_or rounds x 0) n
 
--- a test of a cell whose place was worked out with another name for the number of columns
-pub rise_told : (s : Survey) (h : Pattern) (c k r n : ℕ) (b v : Bool) → n ≡ s.columns → b ≡ takes_part s h c (r * n + k) → b ≡ v →
+-- what was told of a cell by its number
+pub rise_told : (s : Survey) (h : Pattern) (c k r d : ℕ) (b v : Bool) → d ≡ r * s.columns + k → b ≡ takes_part s h c d → b ≡ v →
     can_rise_in s h c k r ≡ v
-rise_told s h c k r n b v e is was = sym (ap (λ (m : ℕ). takes_part s h c (r * m + k)) e) ∙ sym is ∙ was
+rise_told s h c k r d b v at is was = sym (ap (λ (m : ℕ). takes_part s h c m) at) ∙ sym is ∙ was
 
 -- the same of a fall
-pub fall_told : (s : Survey) (h : Pattern) (c : ℕ) (y : ℕ → ℕ) (r k n : ℕ) (b v : Bool) → n ≡ s.columns → b ≡ can_fall s h c y (r * n + k) →
+pub fall_told : (s : Survey) (h : Pattern) (c : ℕ) (y : ℕ → ℕ) (r k d : ℕ) (b v : Bool) → d ≡ r * s.columns + k → b ≡ can_fall s h c y d →
     b ≡ v → can_fall_in s h c y r k ≡ v
-fall_told s h c y r k n b v e is was = sym (ap (λ (m : ℕ). can_fall s h c y (r * m + k)) e) ∙ sym is ∙ was
+fall_told s h c y r k d b v at is was = sym (ap (λ (m : ℕ). can_fall s h c y m) at) ∙ sym is ∙ was

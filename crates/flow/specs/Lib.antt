@@ -3,4 +3,5 @@ pub mod Afoot
 pub mod Closed
 pub mod Raising
 pub mod Searching
+pub mod Standing
 pub mod Ways

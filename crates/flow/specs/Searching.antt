@@ -1,14 +1,33 @@
 -- What a search for a way leaves: in which round each row and column was reached, from where, and how a way is found
 -- back by that. Assumes nothing: these are definitions.
-use Rattle.std.specs.Prelude.{◌≡◌, ℕ, zero, suc, ◌%◌, ◌<◌, ◌≤◌, Bool, true, false, not, ◌&&◌, ◌≢◌, ◌⊎◌, List, length, ◌==◌, slice_index, slice_index_or}
+use Rattle.std.specs.Prelude.{◌≡◌, ℕ, zero, suc, ◌%◌, ◌<◌, ◌≤◌, Bool, true, false, ◌&&◌, ◌≢◌, ◌⊎◌, List, map, length, Some, None, Option, is_some, slice_index, slice_index_or}
 use Rattle.survey.specs.Survey.{pick}
 use Rattle.survey.specs.Page.{Survey, Pattern}
 use Rattle.flow.specs.Ways.{any_below, least, way_left, way_level, parent_row, column_before, reached_rows, reached_columns}
 use Rattle.flow.specs.declared.search.Search.{Search}
+use Rattle.flow.specs.declared.step.Step.{Step}
 
 -- the round of what is not reached: later than any
 abbrev pub never : ℕ
 never = 64
+
+-- the round in which a row or column was reached
+abbrev pub round_of : Option Step → ℕ
+round_of None = never
+round_of (Some step) = step.round
+
+-- where it was reached from; 0 where it was not reached
+abbrev pub parent_of : Option Step → ℕ
+parent_of None = 0
+parent_of (Some step) = step.from
+
+-- the rounds of all of them
+abbrev pub rounds : List (Option Step) → List ℕ
+rounds steps = map round_of steps
+
+-- where each of them was reached from
+abbrev pub parents : List (Option Step) → List ℕ
+parents steps = map parent_of steps
 
 -- a round of a search: from those numbers a below I that are live, each x below J that has not been reached, and for which
 -- some test a x holds, is reached in round v, from the first such a
@@ -32,12 +51,10 @@ Trail s h c y row_parents column_parents (suc n) k =
 
 -- a search where the cells stand at y: whether a way is left, and then the way back; else all that is reached
 pub record Searched (s : Survey) (h : Pattern) (c : ℕ) (y : ℕ → ℕ) (q : Search) : Type 0 where
-  pub long_row_round : length q.row_round ≡ 40
-  pub long_row_parent : length q.row_parent ≡ 40
-  pub long_column_round : length q.column_round ≡ 40
-  pub long_column_parent : length q.column_parent ≡ 40
-  pub found : q.found ≡ way_left s h c y
-  pub level : q.found ≡ true → q.level ≡ way_level s h c y
-  pub trail : q.found ≡ true → Trail s h c y q.row_parent q.column_parent q.level (c % s.columns)
-  pub rows : q.found ≡ false → (i : ℕ) → i < 40 → not (slice_index q.row_round i == never) ≡ slice_index_or (reached_rows s h c y) i false
-  pub columns : q.found ≡ false → (i : ℕ) → i < 40 → not (slice_index q.column_round i == never) ≡ slice_index_or (reached_columns s h c y) i false
+  pub long_rows : length q.rows ≡ 40
+  pub long_columns : length q.columns ≡ 40
+  pub found : is_some q.level ≡ way_left s h c y
+  pub level : (n : ℕ) → q.level ≡ Some n → n ≡ way_level s h c y
+  pub trail : (n : ℕ) → q.level ≡ Some n → Trail s h c y (parents q.rows) (parents q.columns) n (c % s.columns)
+  pub rows : q.level ≡ None → (i : ℕ) → i < 40 → is_some (slice_index_or q.rows i None) ≡ slice_index_or (reached_rows s h c y) i false
+  pub columns : q.level ≡ None → (i : ℕ) → i < 40 → is_some (slice_index_or q.columns i None) ≡ slice_index_or (reached_columns s h c y) i false

@@ -7,6 +7,8 @@ mod lent;
 mod part;
 pub mod raising;
 mod search;
+mod standing;
+mod step;
 mod way;
 
 // A run of ways has one result at most, so that what `raise` leaves is pinned.

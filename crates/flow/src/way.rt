@@ -1,79 +1,78 @@
 // What a way that was found can carry, and the walk back along it that carries so much.
-ghost use Rattle.std.specs.Prelude.{◌≡◌, ℕ, ◌^◌, ◌<◌, true};
-ghost use Rattle.survey.specs.Model.{model, size};
+ghost use Rattle.std.specs.Prelude.{◌≡◌, ◌^◌, ◌<◌, Some, slice_index};
 ghost use Rattle.flow.specs.Afoot.{Afoot};
-ghost use Rattle.flow.specs.Searching.{Searched};
+ghost use Rattle.flow.specs.Searching.{parents, Searched};
+ghost use Rattle.flow.specs.Standing.{survey_of, stands};
 ghost use Rattle.flow.specs.Ways.{standing, carried, next_falls, next_rises};
 
-use crate::part::{place, spare};
 use crate::search::Search;
-use sensitivity::table::Table;
+use crate::standing::{Raised, Standing};
+use crate::step::Step;
 
-// The least that a falling cell of the way has to spare, up to what is lacking.
-fn measure(
-    table: &Table,
-    pattern: &[bool],
-    cell: usize,
-    sums: &[u64],
-    falls: &[u64],
-    rises: &[u64],
-    search: &Search,
-    lacking: u64,
-) -> u64
-    requires afoot { Afoot (model table.now.survey) pattern.now sums.now falls.now rises.now }
-    requires searched { Searched (model table.now.survey) pattern.now cell (standing (model table.now.survey) falls.now rises.now) search.now }
-    requires found { search.now.found ≡ true }
-    ensures { result ≡ carried (model table.now.survey) pattern.now cell (standing (model table.now.survey) falls.now rises.now) lacking }
+// Where a row or column was reached from. What is not reached has no such place: nobody asks for it.
+fn parent(steps: &[Option<Step>; 40], i: usize) -> usize
+    requires { i < 40 }
+    ensures { result ≡ slice_index (parents steps.now) i }
 {
-    let mut most = lacking;
-    let mut k = cell % table.survey().columns();
-    let mut level = search.level;
-    while level > 0 {
-        let r = search.column_parent[k];
-        most = most.min(spare(table, pattern, sums, falls, rises, place(table, r, k)));
-        k = search.row_parent[r];
-        level -= 1;
+    match steps[i] {
+        Some(step) => step.from,
+        None => 0,
     }
-    most.min(spare(
-        table,
-        pattern,
-        sums,
-        falls,
-        rises,
-        place(table, search.column_parent[k], k),
-    ))
 }
 
-// Carries as much as the way can, up to what is lacking: from the raised cell's column back to its row, a cell falls in
-// each row on the way, and its neighbour in the column before rises by the same. Says how much that was.
-pub(crate) fn carry(
-    table: &Table,
-    pattern: &[bool],
-    cell: usize,
-    sums: &[u64],
-    falls: &mut [u64],
-    rises: &mut [u64],
-    search: &Search,
-    lacking: u64,
-) -> u64
-    requires afoot { Afoot (model table.now.survey) pattern.now sums.now falls.old rises.old }
-    requires searched { Searched (model table.now.survey) pattern.now cell (standing (model table.now.survey) falls.old rises.old) search.now }
-    requires found { search.now.found ≡ true }
-    requires small { lacking < 2 ^ 62 }
-    ensures amount { result ≡ carried (model table.now.survey) pattern.now cell (standing (model table.now.survey) falls.old rises.old) lacking }
-    ensures falls { falls.new ≡ next_falls (model table.now.survey) pattern.now cell (standing (model table.now.survey) falls.old rises.old) lacking falls.old }
-    ensures rises { rises.new ≡ next_rises (model table.now.survey) pattern.now cell (standing (model table.now.survey) falls.old rises.old) lacking rises.old }
-{
-    let amount = measure(table, pattern, cell, sums, falls, rises, search, lacking);
-    let mut k = cell % table.survey().columns();
-    let mut level = search.level;
-    while level > 0 {
-        let r = search.column_parent[k];
-        falls[place(table, r, k)] += amount;
-        k = search.row_parent[r];
-        rises[place(table, r, k)] += amount;
-        level -= 1;
+impl Standing<'_> {
+    // The least that a falling cell of the way has to spare, up to what is lacking.
+    fn room(&self, search: &Search, level: usize, lacking: u64) -> u64
+        requires searched { Searched (survey_of self.now.raised) self.now.raised.pattern.now self.now.raised.cell (stands self.now) search.now }
+        requires found { search.now.level ≡ Some level }
+        ensures { result ≡ carried (survey_of self.now.raised) self.now.raised.pattern.now self.now.raised.cell (stands self.now) lacking }
+    {
+        let mut most = lacking;
+        let mut k = self.raised.cell % self.raised.table.survey().columns();
+        for _ in 0..level {
+            let r = parent(&search.columns, k);
+            most = most.min(self.spare(self.raised.place(r, k)));
+            k = parent(&search.rows, r);
+        }
+        most.min(self.spare(self.raised.place(parent(&search.columns, k), k)))
     }
-    falls[place(table, search.column_parent[k], k)] += amount;
-    amount
+}
+
+impl Raised<'_> {
+    // Carries as much as the way can, up to what is lacking: from the raised cell's column back to its row, a cell falls in
+    // each row on the way, and its neighbour in the column before rises by the same. Says how much that was.
+    pub(crate) fn carry(
+        &self,
+        sums: &[u64],
+        falls: &mut [u64],
+        rises: &mut [u64],
+        search: &Search,
+        level: usize,
+        lacking: u64,
+    ) -> u64
+        requires afoot { Afoot (survey_of self.now) self.now.pattern.now sums.now falls.old rises.old }
+        requires searched { Searched (survey_of self.now) self.now.pattern.now self.now.cell (standing (survey_of self.now) falls.old rises.old) search.now }
+        requires found { search.now.level ≡ Some level }
+        requires small { lacking < 2 ^ 62 }
+        ensures amount { result ≡ carried (survey_of self.now) self.now.pattern.now self.now.cell (standing (survey_of self.now) falls.old rises.old) lacking }
+        ensures falls { falls.new ≡ next_falls (survey_of self.now) self.now.pattern.now self.now.cell (standing (survey_of self.now) falls.old rises.old) lacking falls.old }
+        ensures rises { rises.new ≡ next_rises (survey_of self.now) self.now.pattern.now self.now.cell (standing (survey_of self.now) falls.old rises.old) lacking rises.old }
+    {
+        let standing = Standing {
+            raised: *self,
+            sums,
+            falls,
+            rises,
+        };
+        let amount = standing.room(search, level, lacking);
+        let mut k = self.cell % self.table.survey().columns();
+        for _ in 0..level {
+            let r = parent(&search.columns, k);
+            falls[self.place(r, k)] += amount;
+            k = parent(&search.rows, r);
+            rises[self.place(r, k)] += amount;
+        }
+        falls[self.place(parent(&search.columns, k), k)] += amount;
+        amount
+    }
 }

@@ -4,7 +4,7 @@
 ghost use Rattle.page.specs.Pages.{Pages};
 
 use command::limits::admitted;
-use command::talk::{Usage, asked, status_of, told};
+use command::talk::{Task, Usage, status_of, told, worked};
 use publication::publishing::publish;
 use sensitivity::table::Table;
 use std::alloc::Global;
@@ -17,28 +17,15 @@ const USAGE: Usage = Usage {
 };
 
 // The page of the survey that the bytes say, or the first refusal.
-fn page_of(heap: Global, bytes: &[u8], full: bool) -> Result<String, Refusal>
-    ensures { Pages bytes.now full result }
+fn page_of(heap: Global, task: &Task) -> Result<String, Refusal>
+    ensures { Pages task.now.bytes.items task.now.full result }
 {
-    let survey = match admitted(heap, bytes, full) {
-        Ok(survey) => survey,
-        Err(refusal) => return Err(refusal),
-    };
-    match Table::new(heap, survey) {
-        Ok(table) => publish(heap, &table),
-        Err(refusal) => Err(refusal),
-    }
+    let survey = admitted(heap, task.bytes.as_slice(), task.full)?;
+    let table = Table::new(heap, survey)?;
+    publish(heap, &table)
 }
 
 // The status is all that is left to say: an error that `main` gave back would be printed.
 fn main(rt: HostRuntime) -> ExitCode {
-    status_of(match asked(&rt, USAGE) {
-        Ok(Some(task)) => told(
-            &rt,
-            page_of(rt.alloc(), task.bytes.as_slice(), task.full),
-            "",
-        ),
-        Ok(None) => Ok(()),
-        Err(stop) => Err(stop),
-    })
+    status_of(worked(&rt, USAGE, |task| told(&rt, page_of(rt.alloc(), &task), "")))
 }

@@ -9,10 +9,10 @@ use Rattle.command.proofs.call.requested.Goals as goal
 pub loop-i-preserved : goal.loop-i-preserved
 loop-i-preserved c =
     let i = c.loop-i.i in
-    let same = c.sort_of.ensures ∙ ap word_of c.as_str.ensures.value in (
+    let same = c.from.ensures ∙ ap word_of c.as_str.ensures.value in (
       c.after-request.ensures ∙ ap (λ (w : Word). request_after c.loop-i.request w i) same
           ∙ one_more string_bytes c.args.words.now i c.index-words-i.result c.loop-i.request c.loop-i-test.true c.loop-i.invariant.0 c.index-words-i.is,
-      subst (λ (r : Request). Placed (i + 1) r) (sym c.after-request.ensures) (placed_more i c.loop-i.request c.sort_of.result c.loop-i.invariant.1),
+      subst (λ (r : Request). Placed (i + 1) r) (sym c.after-request.ensures) (placed_more i c.loop-i.request c.from.result c.loop-i.invariant.1),
     )
 
 pub returns : goal.returns

@@ -1,6 +1,6 @@
 -- So many marks are set.
-use Rattle.std.proofs.Common.{◌≡◌, ℕ, ◌<◌, false, not, eqb, length, get_or}
+use Rattle.std.proofs.Common.{◌≡◌, ℕ, ◌<◌, false, None, is_some, length, get_or}
 use Rattle.flow.proofs.search.marks.Given as goal
 
 abbrev pub invariant-loop-i : goal.invariant-loop-i
-invariant-loop-i l = ((i : ℕ) → i < l.i → get_or l.marks i false ≡ not (eqb (get_or l.rounds i 0) 64)) × (length l.marks ≡ 40)
+invariant-loop-i l = ((i : ℕ) → i < l.i → get_or l.mark-items i false ≡ is_some (get_or l.steps i None)) × (length l.mark-items ≡ 40)
