@@ -1,9 +1,8 @@
 -- The cells that lack something, listed, and the witnesses that are kept of them. Assumes nothing: these are definitions.
-use Rattle.std.specs.Prelude.{◌≡◌, ℕ, ◌+◌, ◌*◌, ◌<◌, ◌≤◌, false, List, length, vec_len, slice_index, slice_index_or}
+use Rattle.std.specs.Prelude.{◌≡◌, ℕ, ◌+◌, ◌*◌, ◌<◌, ◌≤◌, false, List, length, slice_index, slice_index_or}
 use Rattle.survey.specs.Page.{Survey, Pattern, need, true_sum, Witness}
 use Rattle.search.specs.Moves.{bit_of, no_moves}
 use Rattle.search.specs.declared.moves.Moves.{Moves}
-use Rattle.search.specs.declared.scratch.Scratch.{Scratch}
 
 -- ls holds exactly the cells below n that lack something, by number
 pub record ListsLacking (s : Survey) (n : ℕ) (ls : List ℕ) : Type 0 where
@@ -20,10 +19,3 @@ pub record Kept (s : Survey) (h : Pattern) (c : ℕ) (moves : Moves) : Type 0 wh
 -- each cell of ls from place i up to place j has such a witness
 abbrev pub KeptFrom : Survey → Pattern → List ℕ → (i j : ℕ) → List Moves → Type 0
 KeptFrom s h ls i j moves = (m : ℕ) → i ≤ m → m < j → Kept s h (slice_index ls m) (slice_index_or moves m no_moves)
-
--- there is memory for n cells
-pub record Roomy (n : ℕ) (scratch : Scratch) : Type 0 where
-  pub sums : vec_len scratch.sums ≡ n
-  pub falls : vec_len scratch.falls ≡ n
-  pub rises : vec_len scratch.rises ≡ n
-  pub witness : vec_len scratch.witness ≡ n

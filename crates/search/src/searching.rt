@@ -4,17 +4,17 @@ ghost use Rattle.survey.specs.Lending.{Written};
 ghost use Rattle.survey.specs.Model.{model, size};
 ghost use Rattle.survey.specs.Page.{hidden};
 ghost use Rattle.survey.specs.Promise.{all_hidden};
-ghost use Rattle.search.specs.Lacking.{ListsLacking, Roomy};
+ghost use Rattle.cut.specs.Scratched.{Roomy};
+ghost use Rattle.search.specs.Lacking.{ListsLacking};
 ghost use Rattle.search.specs.Outcomes.{Stops, Searching};
 ghost use Rattle.search.specs.Search.{InOrder, Finds, Refuses};
 ghost use Rattle.search.specs.declared.ranking.Ranked.{Ranked};
 
 use crate::lacking::lacking_cells;
-use crate::looking::scratch_for;
 use crate::moves::{Moves, UNMOVED};
 use crate::ranking::{Ranked, in_order};
-use crate::scratch::Scratch;
 use crate::trials::{blank_enough, first_open, print_back};
+use cut::scratch::Scratch;
 use pattern::blanks::blank_lacking;
 use sensitivity::table::Table;
 use std::alloc::Global;
@@ -57,7 +57,7 @@ fn find(heap: Global, table: &Table) -> Result<Vec<bool>, Refusal>
     let cells = table.survey().cells();
     let lacking = lacking_cells(heap, table)?;
     let order = in_order(heap, table)?;
-    let mut scratch = scratch_for(heap, cells)?;
+    let mut scratch = Scratch::new(heap, cells)?;
     let mut pattern = vec![in heap; true; cells]?;
     let mut moves = vec![in heap; UNMOVED; lacking.len()]?;
     match settle(

@@ -3,14 +3,15 @@ ghost use Rattle.std.specs.Prelude.{◌≡◌, ℕ, ◌<◌, ◌≤◌, true, fa
 ghost use Rattle.survey.specs.Model.{model, size};
 ghost use Rattle.survey.specs.Page.{need, Protected};
 ghost use Rattle.survey.specs.Promise.{all_hidden};
-ghost use Rattle.search.specs.Lacking.{ListsLacking, KeptFrom, Roomy};
+ghost use Rattle.cut.specs.Scratched.{Roomy};
+ghost use Rattle.search.specs.Lacking.{ListsLacking, KeptFrom};
 ghost use Rattle.search.specs.Search.{InOrder, LeastEnough, PrintedBack, Refuses, blanked};
 ghost use Rattle.search.specs.declared.ranking.Ranked.{Ranked};
 
 use crate::looking::look;
 use crate::moves::Moves;
 use crate::ranking::Ranked;
-use crate::scratch::Scratch;
+use cut::scratch::Scratch;
 use sensitivity::table::Table;
 
 // With all cells blank: the first cell that lacks something and is not protected.

@@ -3,7 +3,9 @@ use Rattle.std.proofs.Common.{◌≡◌, ℕ, List, map, sym, ap, ◌∙◌, sub
 use Rattle.std.proofs.lemmas.List.{with_items_is}
 use Rattle.survey.specs.Model.{model, size}
 use Rattle.survey.specs.Page.{Pattern}
-use Rattle.search.specs.Lacking.{ListsLacking, Roomy}
+use Rattle.cut.specs.Scratched.{Roomy}
+use Rattle.cut.proofs.Scratched.{cleared_roomy}
+use Rattle.search.specs.Lacking.{ListsLacking}
 use Rattle.search.specs.Search.{InOrder, Finds}
 use Rattle.search.specs.declared.ranking.Ranked.{Ranked}
 use Rattle.search.proofs.Patterns.{replicate_hidden}
@@ -14,7 +16,7 @@ settle-requires c =
     let s = model c.args.table.now.survey in
     let many : c.cells-cells.result ≡ size s = c.cells-cells.ensures.value ∙ ap (λ t. size (model t)) c.survey.ensures in
     record {
-      roomy = subst (λ (n : ℕ). Roomy n c.in_ok-scratch.scratch) many c.in_ok-scratch.ensures;
+      roomy = subst (λ (n : ℕ). Roomy n c.in_ok-scratch.scratch) many (cleared_roomy _ _ c.in_ok-scratch.ensures);
       listed = subst (λ (l : List ℕ). ListsLacking s (size s) l) (sym c.deref.ensures.value) c.in_ok-lacking.ensures;
       ordered = subst (λ (l : List Ranked). InOrder s (map (λ (p : Ranked). p.cell) l)) (sym c.deref-2.ensures.value) c.in_ok-order.ensures.0;
       few = omega (arith, c.deref-2.ensures.len, c.in_ok-order.ensures.1);

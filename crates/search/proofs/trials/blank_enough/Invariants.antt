@@ -3,7 +3,7 @@ use Rattle.std.proofs.Common.{◌+◌, ◌-◌, map, length}
 use Rattle.survey.specs.Model.{model, size}
 use Rattle.search.specs.declared.ranking.Ranked.{Ranked}
 use Rattle.search.proofs.Blanking.{Blanking}
-use Rattle.search.specs.Lacking.{Roomy}
+use Rattle.cut.specs.Scratched.{Roomy}
 use Rattle.search.proofs.trials.blank_enough.Given as goal
 
 abbrev pub invariant-loop-i : goal.invariant-loop-i

@@ -3,7 +3,7 @@ use Rattle.std.proofs.Common.{ℕ, ◌<◌, get_or}
 use Rattle.survey.specs.Model.{model, size}
 use Rattle.survey.specs.Page.{Witness}
 use Rattle.survey.specs.Promise.{all_hidden}
-use Rattle.search.specs.Lacking.{Roomy}
+use Rattle.cut.specs.Scratched.{Roomy}
 use Rattle.search.proofs.trials.first_open.Given as goal
 
 abbrev pub invariant-loop-i : goal.invariant-loop-i

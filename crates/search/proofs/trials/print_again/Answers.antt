@@ -59,7 +59,7 @@ loop-i-preserved c =
     let at : List Moves → Type 0 = λ (ms : List Moves). Printing (model s) ls h d (i + 1) g ms in
     elim c.if-holds.branch [
       | then-holds+in-Some w ↦ (
-        subst (λ x. Rattle.search.specs.Lacking.Roomy (size (model s)) x) (sym w.scratch-is) w.look.ensures.room,
+        subst (λ x. Rattle.cut.specs.Scratched.Roomy (size (model s)) x) (sym w.scratch-is) w.look.ensures.room,
         c.loop-i.invariant.1,
         subst at (sym w.moves-is) (printing_found (model s) ls h d i g c.loop-i.moves c.loop-i.invariant.2 c.requires.listed _ (omega arith) w.in-Some.ensures.found),
       )
@@ -67,7 +67,7 @@ loop-i-preserved c =
           let width : c.columns-columns.result ≡ s.columns = c.columns-columns.ensures ∙ ap (λ t. (model t).columns) c.survey.ensures in
           let unmoved : bit_of (get_or (get_or c.loop-i.moves i no_moves).rows (d / s.columns) 0) (d % s.columns) ≡ false =
           ap (λ (n : ℕ). bit_of (get_or (get_or c.loop-i.moves i no_moves).rows (d / n) 0) (d % n)) (sym width) ∙ sym c.holds.ensures ∙ w.if-holds.false in (
-            subst (λ x. Rattle.search.specs.Lacking.Roomy (size (model s)) x) (sym w.scratch-is) c.loop-i.invariant.0,
+            subst (λ x. Rattle.cut.specs.Scratched.Roomy (size (model s)) x) (sym w.scratch-is) c.loop-i.invariant.0,
             c.loop-i.invariant.1,
             subst at (sym w.moves-is) (printing_skip (model s) ls h d i g c.loop-i.moves c.loop-i.invariant.2 c.requires.listed (omega arith) s.some_columns c.requires.inside unmoved),
           )

@@ -1,7 +1,7 @@
 -- The cells before have witnesses with the cell printed, those from here on with the pattern as it was.
 use Rattle.std.proofs.Common.{◌≡◌, set}
 use Rattle.survey.specs.Model.{model, size}
-use Rattle.search.specs.Lacking.{Roomy}
+use Rattle.cut.specs.Scratched.{Roomy}
 use Rattle.search.proofs.Printing.{Printing}
 use Rattle.search.proofs.trials.print_again.Given as goal
 

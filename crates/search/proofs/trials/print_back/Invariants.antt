@@ -1,7 +1,8 @@
 -- Printing has come this far.
 use Rattle.std.proofs.Common.{◌≡◌, map, length}
 use Rattle.survey.specs.Model.{model, size}
-use Rattle.search.specs.Lacking.{Roomy, KeptFrom}
+use Rattle.cut.specs.Scratched.{Roomy}
+use Rattle.search.specs.Lacking.{KeptFrom}
 use Rattle.search.specs.declared.ranking.Ranked.{Ranked}
 use Rattle.search.proofs.Steps.{ComeTo}
 use Rattle.search.proofs.trials.print_back.Given as goal
