@@ -49,11 +49,7 @@ returns c =
     let room : size s ≤ length c.args.pattern.now =
     omega (arith, c.if-pattern-cells.false, c.cells.ensures.value, ap (λ t. size (model t)) c.survey.ensures) in
     let long : length g ≡ size s = finds_long s g c.in_ok-found.ensures in
-    let n : c.len.result ≡ length g = c.len.ensures ∙ c.in_ok-found.found.ok.0 in (
-      room,
-      (
-        g,
-        found_by_rule s g (model_sound c.args.table.now.survey) c.in_ok-found.ensures,
-        rw (← long, c.copy_from_slice.ensures.after, c.deref.ensures.value, n) (written_front g c.args.pattern.now (omega arith)),
-      ),
-    )
+    let n : c.len.result ≡ length g = c.len.ensures ∙ c.in_ok-found.found.ok.0 in
+    let wrote : Written false (hidden g) (size s) c.args.pattern.now (c.copy_from_slice.new.self ++ drop c.len.result c.args.pattern.now) =
+    rw (← long, c.copy_from_slice.ensures.after, c.deref.ensures.value, n) (written_front g c.args.pattern.now (omega arith)) in
+    (room, (g, found_by_rule s g (model_sound c.args.table.now.survey) c.in_ok-found.ensures, wrote))

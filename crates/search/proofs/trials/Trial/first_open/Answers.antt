@@ -31,7 +31,9 @@ returns-in_default-clause-found c =
     let so_far = c.loop-lack.invariant in
     let long = listed_long s ls so_far.listed in
     let at = listed_at s ls so_far.listed i (omega arith) in
-    rw (← c.self.view_is, at) (served_open s h i (omega arith) so_far.served (subst (λ d. Witness s h d → ⊥) at (rw c.deref.ensures.value at c.in_default.ensures.found)))
+    let none = subst (λ d. Witness s h d → ⊥) at (rw c.deref.ensures.value at c.in_default.ensures.found) in
+    let first : FirstOpen s h (cell_at ls i) = rw at (served_open s h i (omega arith) so_far.served none) in
+    rw (← c.self.view_is) first
 
 pub loop-lack-preserved : goal.loop-lack-preserved
 loop-lack-preserved c =
