@@ -10,8 +10,10 @@ mod Existence
 pub mod Sorting
 pub mod Examples
 pub mod Listing
+mod Keeping
+mod Trying
+mod Blanking
+mod Printing
 mod Bits
-pub mod Blanking
-pub mod Printing
 pub mod Shown
 mod Outcomes

@@ -1,15 +1,19 @@
--- The cells that lack something, listed, and the witnesses that are kept of them. Assumes nothing: these are definitions.
-use Rattle.std.specs.Prelude.{◌≡◌, ℕ, ◌+◌, ◌*◌, ◌<◌, ◌≤◌, false, List, length, vec_len, slice_index, slice_index_or}
-use Rattle.survey.specs.Page.{Survey, Pattern, need, true_sum, Witness}
-use Rattle.search.specs.Moves.{bit_of, no_moves}
+-- The cells that lack something, listed, and the witnesses that are known of them. Assumes nothing: these are definitions.
+use Rattle.std.specs.Prelude.{◌≡◌, ℕ, ◌+◌, ◌*◌, ◌<◌, false, List, filter, map, None, IfSome, nat_lt, slice_index}
+use Rattle.std.specs.List.{All, range_with_len}
+use Rattle.survey.specs.Model.{size}
+use Rattle.survey.specs.Page.{Survey, Pattern, hidden, need, true_sum, Witness}
+use Rattle.search.specs.Moves.{bit_of}
+use Rattle.search.specs.declared.lacking.Lacking.{Lacking}
 use Rattle.search.specs.declared.moves.Moves.{Moves}
-use Rattle.search.specs.declared.scratch.Scratch.{Scratch}
 
--- ls holds exactly the cells below n that lack something, by number
-pub record ListsLacking (s : Survey) (n : ℕ) (ls : List ℕ) : Type 0 where
-  pub only : (i : ℕ) → i < length ls → (slice_index ls i < n) × (0 < need s (slice_index ls i))
-  pub all : (c : ℕ) → c < n → 0 < need s c → (i : ℕ) × (i < length ls) × (slice_index ls i ≡ c)
-  pub rising : (i j : ℕ) → i < j → j < length ls → slice_index ls i < slice_index ls j
+-- the cells of the table that lack something, by number
+abbrev pub lacking_cells : Survey → List ℕ
+lacking_cells s = filter (λ c. nat_lt 0 (need s c)) (range_with_len 0 (size s))
+
+-- a cell of which no witness is known
+abbrev pub unknown : ℕ → Lacking
+unknown c = record { cell = c; moves = None }
 
 -- a witness for cell c that changes no cell but those whose bit is set
 pub record Kept (s : Survey) (h : Pattern) (c : ℕ) (moves : Moves) : Type 0 where
@@ -17,13 +21,6 @@ pub record Kept (s : Survey) (h : Pattern) (c : ℕ) (moves : Moves) : Type 0 wh
   pub still : (r k : ℕ) → r < s.rows → k < s.columns → bit_of (slice_index moves.rows r) k ≡ false →
       witness.sums (r * s.columns + k) ≡ true_sum s (r * s.columns + k)
 
--- each cell of ls from place i up to place j has such a witness
-abbrev pub KeptFrom : Survey → Pattern → List ℕ → (i j : ℕ) → List Moves → Type 0
-KeptFrom s h ls i j moves = (m : ℕ) → i ≤ m → m < j → Kept s h (slice_index ls m) (slice_index_or moves m no_moves)
-
--- there is memory for n cells
-pub record Roomy (n : ℕ) (scratch : Scratch) : Type 0 where
-  pub sums : vec_len scratch.sums ≡ n
-  pub falls : vec_len scratch.falls ≡ n
-  pub rises : vec_len scratch.rises ≡ n
-  pub witness : vec_len scratch.witness ≡ n
+-- what is known of the cell is of a witness that it has
+abbrev pub Known : Survey → Pattern → Lacking → Type 0
+Known s h l = IfSome l.moves (λ m. Kept s h l.cell m)

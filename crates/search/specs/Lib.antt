@@ -3,4 +3,6 @@ pub mod Examples
 pub mod Lacking
 pub mod Moves
 pub mod Outcomes
+pub mod Ranking
 pub mod Search
+pub mod Trials

@@ -7,7 +7,6 @@ mod lacking;
 mod looking;
 mod moves;
 mod ranking;
-mod scratch;
 pub mod searching;
 mod trials;
 

@@ -1,27 +1,14 @@
 // Whether a cell is protected, and by a witness that changes which cells.
-ghost use Rattle.std.specs.Prelude.{◌≡◌, ◌<◌, ◌≤◌, true, length, IfOk, MatchOption};
+ghost use Rattle.std.specs.Prelude.{◌≡◌, ◌<◌, ◌≤◌, true, length, MatchOption};
 ghost use Rattle.survey.specs.Model.{model, size};
 ghost use Rattle.survey.specs.Page.{hidden, Witness};
-ghost use Rattle.search.specs.Lacking.{Kept, Roomy};
+ghost use Rattle.cut.specs.Scratched.{Roomy};
+ghost use Rattle.search.specs.Lacking.{Kept};
 
 use crate::moves::{Moves, moves_of};
-use crate::scratch::Scratch;
 use cut::finding::Finding;
-use cut::judging::witness_or_cut;
+use cut::scratch::Scratch;
 use sensitivity::table::Table;
-use std::alloc::{AllocError, Global};
-
-// Memory for so many cells.
-pub(crate) fn scratch_for(heap: Global, cells: usize) -> Result<Scratch, AllocError>
-    ensures { IfOk result (λ x. Roomy cells x) }
-{
-    Ok(Scratch {
-        sums: vec![in heap; 0; cells]?,
-        falls: vec![in heap; 0; cells]?,
-        rises: vec![in heap; 0; cells]?,
-        witness: vec![in heap; 0; cells]?,
-    })
-}
 
 // The cells that some witness changes, where a blank cell has one with this pattern.
 pub(crate) fn look(
@@ -38,15 +25,7 @@ pub(crate) fn look(
     ensures found { MatchOption result (Witness (model table.now.survey) pattern.now cell → ⊥) (λ m. Kept (model table.now.survey) pattern.now cell m) }
 {
     // there is memory for all cells
-    let Ok(finding) = witness_or_cut(
-        table,
-        pattern,
-        cell,
-        &mut scratch.sums,
-        &mut scratch.falls,
-        &mut scratch.rises,
-        &mut scratch.witness,
-    ) else {
+    let Ok(finding) = scratch.judge(table, pattern, cell) else {
         unreachable()
     };
     match finding {

@@ -1,137 +1,168 @@
 // What the search tries, step by step: all cells blank, as many blank as it takes, and what can be printed again.
-ghost use Rattle.std.specs.Prelude.{◌≡◌, ℕ, ◌<◌, ◌≤◌, true, false, [], map, length, take, MatchBool, MatchOption, slice_set};
+ghost use Rattle.std.specs.Prelude.{◌≡◌, ℕ, ◌<◌, ◌≤◌, true, false, [], length, take, IfOk, MatchBool, MatchOption, slice_set};
 ghost use Rattle.survey.specs.Model.{model, size};
 ghost use Rattle.survey.specs.Page.{need, Protected};
 ghost use Rattle.survey.specs.Promise.{all_hidden};
-ghost use Rattle.search.specs.Lacking.{ListsLacking, KeptFrom, Roomy};
-ghost use Rattle.search.specs.Search.{InOrder, LeastEnough, PrintedBack, Refuses, blanked};
-ghost use Rattle.search.specs.declared.ranking.Ranked.{Ranked};
+ghost use Rattle.search.specs.Ranking.{cells_of};
+ghost use Rattle.search.specs.Search.{InOrder, LeastEnough, PrintedBack, blanked};
+ghost use Rattle.search.specs.Trials.{FirstOpen};
 
+use crate::lacking::{Lacking, lacking_cells};
 use crate::looking::look;
-use crate::moves::Moves;
 use crate::ranking::Ranked;
-use crate::scratch::Scratch;
+use cut::scratch::Scratch;
+use pattern::blanks::blank_lacking;
 use sensitivity::table::Table;
+use std::alloc::{AllocError, Global};
+use std::marker::Model;
 
-// With all cells blank: the first cell that lacks something and is not protected.
-pub(crate) fn first_open(
-    table: &Table,
-    lacking: &[usize],
-    pattern: &[bool],
-    scratch: &mut Scratch,
-) -> Option<usize>
-    requires roomy { Roomy (size (model table.now.survey)) scratch.old }
-    requires listed { ListsLacking (model table.now.survey) (size (model table.now.survey)) lacking.now }
-    requires blank { pattern.now ≡ all_hidden (size (model table.now.survey)) }
-    ensures room { Roomy (size (model table.now.survey)) scratch.new }
-    ensures found { MatchOption result (Protected (model table.now.survey) (all_hidden (size (model table.now.survey)))) (λ c. Refuses (model table.now.survey) c) }
-{
-    for i in 0..lacking.len() {
-        match look(table, pattern, lacking[i], scratch) {
-            Some(_) => {}
-            None => return Some(lacking[i]),
-        }
-    }
-    None
+// A pattern that is tried on a table, and what is known of the cells that lack something.
+#[derive(Drop)]
+pub(crate) struct Trial<'a> {
+    table: &'a Table,
+    pattern: Vec<bool>,
+    lacking: Vec<Lacking>,
+    scratch: Scratch,
 }
 
-// Makes cells blank in their order until the pattern protects, and says how many. Blanks only help, so a cell that is
-// protected stays so: the search goes on from the first cell that is not.
-pub(crate) fn blank_enough(
-    table: &Table,
-    lacking: &[usize],
-    order: &[Ranked],
-    pattern: &mut [bool],
-    moves: &mut [Moves],
-    scratch: &mut Scratch,
-) -> usize
-    requires roomy { Roomy (size (model table.now.survey)) scratch.old }
-    requires listed { ListsLacking (model table.now.survey) (size (model table.now.survey)) lacking.now }
-    requires ordered { InOrder (model table.now.survey) (map (λ (p : Ranked). p.cell) order.now) }
-    requires few { length order.now ≤ 1600 }
-    requires first { pattern.old ≡ blanked (model table.now.survey) [] }
-    requires each { length moves.old ≡ length lacking.now }
-    requires can { Protected (model table.now.survey) (all_hidden (size (model table.now.survey))) }
-    ensures room { Roomy (size (model table.now.survey)) scratch.new }
-    ensures enough { LeastEnough (model table.now.survey) (map (λ (p : Ranked). p.cell) order.now) result }
-    ensures blanks { pattern.new ≡ blanked (model table.now.survey) (take result (map (λ (p : Ranked). p.cell) order.now)) }
-    ensures kept { KeptFrom (model table.now.survey) pattern.new lacking.now 0 (length lacking.now) moves.new }
-{
-    let mut k = 0;
-    let mut i = 0;
-    while i < lacking.len() {
-        match look(table, pattern, lacking[i], scratch) {
-            Some(changed) => {
-                moves[i] = changed;
-                i += 1;
-            }
-            None => {
-                pattern[order[k].cell] = true;
-                k += 1;
-            }
-        }
-    }
-    k
+impl<'a> Model for Trial<'a> {
+    ghost use Rattle.survey.specs.Model.{model};
+    ghost use Rattle.search.specs.Trials.{Tried, Tries};
+
+    ghost Value = { Tried };
+
+    ghost view = { λ t. record { survey = model t.table.now.survey; pattern = t.pattern.items } };
+
+    ghost invariant = { λ t. Tries (model t.table.now.survey) t.pattern.items t.lacking.items t.scratch };
 }
 
-// Prints one cell that lacks nothing if the pattern still protects. Only a witness that changes the cell is in question.
-fn print_again(
-    table: &Table,
-    lacking: &[usize],
-    cell: usize,
-    pattern: &mut [bool],
-    moves: &mut [Moves],
-    scratch: &mut Scratch,
-) -> bool
-    requires roomy { Roomy (size (model table.now.survey)) scratch.old }
-    requires listed { ListsLacking (model table.now.survey) (size (model table.now.survey)) lacking.now }
-    requires long { length pattern.old ≡ size (model table.now.survey) }
-    requires each { length moves.old ≡ length lacking.now }
-    requires inside { cell < size (model table.now.survey) }
-    requires enough { need (model table.now.survey) cell ≡ 0 }
-    requires kept { KeptFrom (model table.now.survey) pattern.old lacking.now 0 (length lacking.now) moves.old }
-    ensures room { Roomy (size (model table.now.survey)) scratch.new }
-    ensures tried { MatchBool result ((pattern.new ≡ slice_set pattern.old cell false) × Protected (model table.now.survey) (slice_set pattern.old cell false)) ((pattern.new ≡ pattern.old) × (Protected (model table.now.survey) (slice_set pattern.old cell false) → ⊥)) }
-    ensures keeps { KeptFrom (model table.now.survey) pattern.new lacking.now 0 (length lacking.now) moves.new }
-{
-    let columns = table.survey().columns();
-    let before = pattern[cell];
-    pattern[cell] = false;
-    for i in 0..lacking.len() {
-        if moves[i].holds(cell / columns, cell % columns) {
-            match look(table, pattern, lacking[i], scratch) {
-                Some(changed) => moves[i] = changed,
-                None => {
+impl<'a> Trial<'a> {
+    // All cells blank, and nothing known.
+    pub(crate) fn new(heap: Global, table: &'a Table) -> Result<Trial<'a>, AllocError>
+        ensures { IfOk result (λ t. (t.survey ≡ model table.now.survey) × (t.pattern ≡ all_hidden (size (model table.now.survey)))) }
+    {
+        let cells = table.survey().cells();
+        let pattern = vec![in heap; true; cells]?;
+        let lacking = lacking_cells(heap, table)?;
+        let scratch = Scratch::new(heap, cells)?;
+        Ok(Trial {
+            table,
+            pattern,
+            lacking,
+            scratch,
+        })
+    }
+
+    // The first cell that lacks something and is not protected. One of which a witness is known is not looked at.
+    pub(crate) fn first_open(&mut self) -> Option<usize>
+        ensures same { self.new ≡ self.old }
+        ensures found { MatchOption result (Protected self.old.survey self.old.pattern) (λ c. FirstOpen self.old.survey self.old.pattern c) }
+    {
+        let Trial {
+            table,
+            pattern,
+            lacking,
+            scratch,
+        } = self;
+        for lack in lacking.iter_mut() {
+            if lack.moves.is_none() {
+                let Some(moves) = look(table, pattern, lack.cell, scratch) else {
+                    return Some(lack.cell);
+                };
+                lack.moves = Some(moves);
+            }
+        }
+        None
+    }
+
+    // The cells that lack something blank, and no other; what is known of them is of no use any more.
+    pub(crate) fn begin(&mut self)
+        ensures same { self.new.survey ≡ self.old.survey }
+        ensures blanks { self.new.pattern ≡ blanked self.old.survey [] }
+    {
+        let Trial {
+            table,
+            pattern,
+            lacking,
+            ..
+        } = self;
+        let Ok(()) = blank_lacking(table, pattern) else {
+            unreachable()
+        };
+        for lack in lacking.iter_mut() {
+            lack.moves = None;
+        }
+    }
+
+    // One cell more is blank.
+    fn blank(&mut self, cell: usize)
+        requires { cell < size self.old.survey }
+        ensures same { self.new.survey ≡ self.old.survey }
+        ensures blanks { self.new.pattern ≡ slice_set self.old.pattern cell true }
+    {
+        self.pattern[cell] = true;
+    }
+
+    // Makes cells blank in their order until the pattern protects, and says how many. Blanks only help, so a cell that is
+    // protected stays so.
+    pub(crate) fn blank_enough(&mut self, order: &[Ranked]) -> usize
+        requires ordered { InOrder self.old.survey (cells_of order.now) }
+        requires first { self.old.pattern ≡ blanked self.old.survey [] }
+        requires can { Protected self.old.survey (all_hidden (size self.old.survey)) }
+        ensures same { self.new.survey ≡ self.old.survey }
+        ensures enough { LeastEnough self.old.survey (cells_of order.now) result }
+        ensures blanks { self.new.pattern ≡ blanked self.old.survey (take result (cells_of order.now)) }
+    {
+        let mut k = 0;
+        while self.first_open().is_some() {
+            self.blank(order[k].cell);
+            k += 1;
+        }
+        k
+    }
+
+    // Prints one cell that lacks nothing if the pattern still protects. Only a witness that changes the cell is in question.
+    fn print_again(&mut self, cell: usize) -> bool
+        requires inside { cell < size self.old.survey }
+        requires enough { need self.old.survey cell ≡ 0 }
+        ensures same { self.new.survey ≡ self.old.survey }
+        ensures tried { MatchBool result ((self.new.pattern ≡ slice_set self.old.pattern cell false) × Protected self.old.survey (slice_set self.old.pattern cell false)) ((self.new.pattern ≡ self.old.pattern) × (Protected self.old.survey (slice_set self.old.pattern cell false) → ⊥)) }
+    {
+        let Trial {
+            table,
+            pattern,
+            lacking,
+            scratch,
+        } = self;
+        let columns = table.survey().columns();
+        let before = pattern[cell];
+        pattern[cell] = false;
+        for lack in lacking.iter_mut() {
+            if lack.may_change(cell / columns, cell % columns) {
+                let Some(moves) = look(table, pattern, lack.cell, scratch) else {
                     pattern[cell] = before;
                     return false;
-                }
+                };
+                lack.moves = Some(moves);
             }
         }
+        true
     }
-    true
-}
 
-// Prints again what can be, from the last of the first k cells back.
-pub(crate) fn print_back(
-    table: &Table,
-    lacking: &[usize],
-    order: &[Ranked],
-    k: usize,
-    pattern: &mut [bool],
-    moves: &mut [Moves],
-    scratch: &mut Scratch,
-)
-    requires roomy { Roomy (size (model table.now.survey)) scratch.old }
-    requires listed { ListsLacking (model table.now.survey) (size (model table.now.survey)) lacking.now }
-    requires ordered { InOrder (model table.now.survey) (map (λ (p : Ranked). p.cell) order.now) }
-    requires few { length order.now ≤ 1600 }
-    requires within { k ≤ length order.now }
-    requires long { length pattern.old ≡ size (model table.now.survey) }
-    requires each { length moves.old ≡ length lacking.now }
-    requires kept { KeptFrom (model table.now.survey) pattern.old lacking.now 0 (length lacking.now) moves.old }
-    ensures { PrintedBack (model table.now.survey) (map (λ (p : Ranked). p.cell) order.now) k pattern.old pattern.new }
-{
-    for j in (0..k).rev() {
-        print_again(table, lacking, order[j].cell, pattern, moves, scratch);
+    // Prints again what can be, from the last of the first k cells back.
+    pub(crate) fn print_back(&mut self, order: &[Ranked], k: usize)
+        requires ordered { InOrder self.old.survey (cells_of order.now) }
+        requires within { k ≤ length order.now }
+        ensures { PrintedBack self.old.survey (cells_of order.now) k self.old.pattern self.new.pattern }
+    {
+        for ranked in order[..k].iter().rev() {
+            self.print_again(ranked.cell);
+        }
+    }
+
+    pub(crate) fn into_pattern(self) -> Vec<bool>
+        ensures { result.items ≡ self.entry.pattern }
+    {
+        self.pattern
     }
 }

@@ -1,0 +1,100 @@
+-- Each witness that may change the cell is looked for again.
+use Rattle.std.proofs.Common.{◌≡◌, ◌+◌, ◌<◌, false, length, map, get_or, set, sym, ◌∙◌, ap, subst, arith}
+use Rattle.std.proofs.lemmas.List.{set-get_or, with_items_is, length-set}
+use Rattle.survey.specs.Model.{model, size}
+use Rattle.survey.specs.Page.{Pattern, Witness, Protected, hidden, need}
+use Rattle.search.specs.Lacking.{lacking_cells, unknown}
+use Rattle.search.specs.Trials.{Tried, Tries}
+use Rattle.search.specs.declared.lacking.Lacking.{Lacking}
+use Rattle.search.proofs.Listing.{cell_at, listed_at, listed_long, listed_inside, listed_lacks, served_all, served_open, found_listed}
+use Rattle.search.proofs.Patterns.{without_witness}
+use Rattle.search.proofs.Printing.{Printing, put_back, blank_besides, printing_undone, printing_found, printing_skip}
+use Rattle.search.proofs.trials.Trial.print_again.Goals as goal
+use Rattle.search.proofs.trials.Trial.print_again.Goals.{In_default, After-look, then-may_change+in-Some, else-may_change}
+
+pub look-requires-clause-inside : goal.look-requires-clause-inside
+look-requires-clause-inside c = listed_inside _ c.loop-lack.lack-items c.loop-lack.invariant.listed c.loop-lack.lack-index (omega arith)
+
+pub look-requires-clause-blank : goal.look-requires-clause-blank
+look-requires-clause-blank c =
+    let s = model c.self.inside.table.now.survey in
+    let ls = c.loop-lack.lack-items in
+    let i = c.loop-lack.lack-index in
+    let listed = c.loop-lack.invariant.listed in
+    let was : c.self.inside.pattern.items ≡ c.args.self.now.pattern = ap (λ (t : Tried). t.pattern) c.self.view_is in
+    let enough : need s c.args.cell ≡ 0 = rw (← c.self.view_is) at c.requires.enough in
+    rw (c.deref.ensures.value, c.loop-lack.invariant.pattern, ← was) (blank_besides s c.self.inside.pattern.items c.args.cell enough c.self.invariant.blank (cell_at ls i) (listed_inside s ls listed i (omega arith)) (listed_lacks s ls listed i (omega arith)))
+
+pub invariant_of-self-in_default : goal.invariant_of-self-in_default
+invariant_of-self-in_default c =
+    let s = model c.self.inside.table.now.survey in
+    let ls = c.loop-lack.lack-items in
+    let i = c.loop-lack.lack-index in
+    let d = c.args.cell in
+    let so_far = c.loop-lack.invariant in
+    let was : c.self.inside.pattern.items ≡ c.args.self.now.pattern = ap (λ (t : Tried). t.pattern) c.self.view_is in
+    let back : set c.loop-lack.pattern.items d c.index-before.result.now ≡ c.self.inside.pattern.items =
+    ap (λ g. set g d c.index-before.result.now) so_far.pattern ∙ put_back c.args.self.now.pattern d _ (rw was at c.index-before.ensures) ∙ sym was in
+    let long : length (set ls i (get_or ls i (unknown 0))) ≡ c.self.inside.lacking.len = length-set ls i _ ∙ c.loop-lack.auto.lack-items ∙ c.deref_mut-lack-items.ensures.len in
+    let same = with_items_is c.self.inside.lacking (set ls i (get_or ls i (unknown 0))) long ∙ set-get_or ls i (unknown 0) in
+    rw (back, same) (record {
+      long = c.self.invariant.long;
+      blank = c.self.invariant.blank;
+      listed = so_far.listed;
+      known = rw was (printing_undone s c.args.self.now.pattern d ls i so_far.so_far);
+      roomy = c.look.ensures.room;
+    })
+
+pub returns-in_default-clause-tried : goal.returns-in_default-clause-tried
+returns-in_default-clause-tried c =
+    let s = model c.self.inside.table.now.survey in
+    let ls = c.loop-lack.lack-items in
+    let i = c.loop-lack.lack-index in
+    let d = c.args.cell in
+    let so_far = c.loop-lack.invariant in
+    let below : i < length ls = omega arith in
+    let was : c.self.inside.pattern.items ≡ c.args.self.now.pattern = ap (λ (t : Tried). t.pattern) c.self.view_is in
+    let survey : s ≡ c.args.self.now.survey = ap (λ (t : Tried). t.survey) c.self.view_is in
+    let none = rw (c.deref.ensures.value, so_far.pattern) at c.in_default.ensures.found in (
+      ap (λ g. set g d c.index-before.result.now) so_far.pattern ∙ put_back c.args.self.now.pattern d _ (rw was at c.index-before.ensures),
+      rw (← survey) (without_witness s _ (cell_at ls i) (listed_inside s ls so_far.listed i below) (listed_lacks s ls so_far.listed i below) none),
+    )
+
+pub loop-lack-preserved : goal.loop-lack-preserved
+loop-lack-preserved c =
+    let s = model c.self.inside.table.now.survey in
+    let h = c.args.self.now.pattern in
+    let d = c.args.cell in
+    let ls = c.loop-lack.lack-items in
+    let i = c.loop-lack.lack-index in
+    let so_far = c.loop-lack.invariant in
+    let below : i < length ls = omega arith in
+    let at = listed_at s ls so_far.listed i below in
+    elim c.if-may_change.branch [
+      | then-may_change+in-Some w ↦
+          let kept = rw (w.deref.ensures.value, so_far.pattern) at w.in-Some.ensures.found in
+          record {
+            pattern = so_far.pattern;
+            listed = found_listed s ls c.if-may_change.lack-items i w.in-Some.moves w.lack-items-is so_far.listed;
+            roomy = rw w.scratch-is w.look.ensures.room;
+            so_far = printing_found s h d ls i so_far.so_far below at c.if-may_change.lack-items w.in-Some.moves w.lack-items-is kept;
+          }
+      | else-may_change w ↦
+          let same = w.lack-items-is ∙ set-get_or ls i (unknown 0) in
+          let unmoved = c.may_change.ensures w.if-may_change.false in
+          let width : c.columns-columns.result ≡ s.columns = c.columns-columns.ensures ∙ ap (λ t. (model t).columns) c.survey.ensures in
+          let inside : d < size s = rw (← c.self.view_is) at c.requires.inside in
+          record {
+            pattern = so_far.pattern;
+            listed = ap (map (λ (l : Lacking). l.cell)) same ∙ so_far.listed;
+            roomy = rw w.scratch-is so_far.roomy;
+            so_far = rw same (printing_skip s h d ls i so_far.so_far below at unmoved.0 unmoved.1 (rw width at unmoved.2) c.self.inside.table.now.survey.some_columns inside);
+          }
+    ]
+
+pub returns-clause-tried : goal.returns-clause-tried
+returns-clause-tried c =
+    let s = model c.self.inside.table.now.survey in
+    let so_far = c.loop-lack.invariant in
+    let survey : s ≡ c.args.self.now.survey = ap (λ (t : Tried). t.survey) c.self.view_is in
+    (so_far.pattern, rw (← survey) (served_all s _ (λ i below. so_far.so_far.served i (omega (arith, listed_long s c.loop-lack.lack-items so_far.listed)))))
