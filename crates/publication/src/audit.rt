@@ -1,16 +1,17 @@
 // The auditor: whether a pattern protects, and where it does not, the first cell that shows it; that there is one answer at
 // most; and the line that is printed of it.
-ghost use Rattle.std.specs.Prelude.{◌≡◌, ℕ, ◌<◌, ◌≤◌, Bool, length, IfOk, string_bytes};
+ghost use Rattle.std.specs.Prelude.{◌≡◌, ℕ, ◌<◌, ◌≤◌, Bool, length, string_bytes};
 ghost use Rattle.survey.specs.Model.{model, size};
+ghost use Rattle.cut.specs.Scratched.{Roomy};
 ghost use Rattle.publication.specs.Audit.{protected, printed, barred, marked, numbered, answer, Audited, OneAnswer, PrintedOpen, BarredByBar};
-ghost use Rattle.publication.specs.Auditing.{Roomy, Judged, Auditing};
+ghost use Rattle.publication.specs.Auditing.{Judged, Auditing};
 ghost use Rattle.publication.specs.Written.{Adds, Told};
 
-use crate::audited::{Audit, Scratch};
+use crate::audited::Audit;
 use cut::finding::Finding;
-use cut::judging::witness_or_cut;
+use cut::scratch::Scratch;
 use sensitivity::table::Table;
-use std::alloc::{AllocError, Global};
+use std::alloc::Global;
 use survey::refusal::{Lent, Refusal};
 
 // An audit has one answer at most.
@@ -35,18 +36,15 @@ fn put_marked(text: &mut String, mark: bool, number: usize) -> Result<(), Refusa
     if !mark {
         return Ok(());
     }
-    match write!(text, " {number}") {
-        Ok(()) => Ok(()),
-        Err(_) => Err(Refusal::Memory),
-    }
+    Ok(write!(text, " {number}")?)
 }
 
 // Writes the numbers of all that are marked, each after a space.
 fn put_numbered(text: &mut String, marks: &[bool]) -> Result<(), Refusal>
     ensures { Adds (numbered marks.now (length marks.now)) (string_bytes text.old) (string_bytes text.new) result }
 {
-    for i in 0..marks.len() {
-        put_marked(text, marks[i], i)?;
+    for (i, mark) in marks.iter().enumerate() {
+        put_marked(text, *mark, i)?;
     }
     Ok(())
 }
@@ -92,18 +90,6 @@ pub fn audit_line(heap: Global, audit: &Audit) -> Result<String, Refusal>
     }
 }
 
-// Memory for so many cells.
-fn scratch_for(heap: Global, cells: usize) -> Result<Scratch, AllocError>
-    ensures { IfOk result (λ x. Roomy cells x) }
-{
-    Ok(Scratch {
-        sums: vec![in heap; 0; cells]?,
-        falls: vec![in heap; 0; cells]?,
-        rises: vec![in heap; 0; cells]?,
-        witness: vec![in heap; 0; cells]?,
-    })
-}
-
 // Judges one cell. One that lacks nothing needs no witness, so none is looked for.
 fn judge(table: &Table, pattern: &[bool], cell: usize, scratch: &mut Scratch) -> Finding
     requires roomy { Roomy (size (model table.now.survey)) scratch.old }
@@ -116,15 +102,7 @@ fn judge(table: &Table, pattern: &[bool], cell: usize, scratch: &mut Scratch) ->
         return Finding::Shown;
     }
     // there is memory for all cells
-    let Ok(finding) = witness_or_cut(
-        table,
-        pattern,
-        cell,
-        &mut scratch.sums,
-        &mut scratch.falls,
-        &mut scratch.rises,
-        &mut scratch.witness,
-    ) else {
+    let Ok(finding) = scratch.judge(table, pattern, cell) else {
         unreachable()
     };
     finding
@@ -156,6 +134,6 @@ pub fn audit(heap: Global, table: &Table, pattern: &[bool]) -> Result<Audit, Ref
     if pattern.len() < cells {
         return Err(Refusal::Short(Lent::Pattern));
     }
-    let mut scratch = scratch_for(heap, cells)?;
+    let mut scratch = Scratch::new(heap, cells)?;
     Ok(first_open(table, pattern, &mut scratch))
 }

@@ -1,7 +1,9 @@
 // The page as text: one line a row, with a dash for each blank and the row's sum last; the sums of the columns on the
 // last line, with the sum of all turnovers last.
-ghost use Rattle.std.specs.Prelude.{◌≡◌, ℕ, ◌+◌, ◌*◌, ◌<◌, ◌≤◌, Bool, List, [], ◌∷◌, ◌++◌, length, string_bytes, decimal};
+ghost use Rattle.std.specs.Prelude.{◌≡◌, ℕ, ◌+◌, ◌*◌, ◌<◌, ◌≤◌, Bool, List, [], ◌∷◌, ◌++◌, length, sum_by, string_bytes, decimal};
+ghost use Rattle.std.specs.Iterator.{Drains, HoldsAlong, IsFinite};
 ghost use Rattle.survey.specs.Model.{model, size};
+ghost use Rattle.survey.specs.Page.{true_sum};
 ghost use Rattle.survey.specs.Survey.{row_sum, column_sum, sum_of_all};
 ghost use Rattle.publication.specs.Text.{spaced, ended, entry, row_text, row_line, row_lines, column_text, sums_line};
 ghost use Rattle.publication.specs.Written.{Adds, Published};
@@ -10,17 +12,23 @@ use sensitivity::table::Table;
 use std::alloc::Global;
 use survey::refusal::{Lent, Refusal};
 
+// Adds up these cells: a line of the table has forty at most.
+fn sum_of<I: Iterator<Item = usize> + Drop>(table: &Table, cells: I) -> u64
+    requires can { I.can_next cells }
+    requires ends { IsFinite (I.remaining cells) }
+    requires few { HoldsAlong I.next_gives cells (λ ds. length ds ≤ 40) }
+    ensures { (ds : List ℕ) × Drains I.next_gives cells ds × (result ≡ sum_by (true_sum (model table.now.survey)) ds) }
+{
+    cells.map(|cell| table.profile(cell).sum).sum()
+}
+
 // Adds up the cells of a row.
 fn row_sum(table: &Table, row: usize) -> u64
     requires { row < (model table.now.survey).rows }
     ensures { result ≡ row_sum (model table.now.survey).columns (model table.now.survey).cells (model table.now.survey).values row }
 {
     let columns = table.survey().columns();
-    let mut sum: u64 = 0;
-    for k in 0..columns {
-        sum += table.profile(row * columns + k).sum;
-    }
-    sum
+    sum_of(table, (0..columns).map(|k| row * columns + k))
 }
 
 // Adds up the cells of a column.
@@ -29,31 +37,22 @@ fn column_sum(table: &Table, column: usize) -> u64
     ensures { result ≡ column_sum (model table.now.survey).columns (model table.now.survey).cells (model table.now.survey).values column }
 {
     let columns = table.survey().columns();
-    let mut sum: u64 = 0;
-    for r in 0..table.survey().rows() {
-        sum += table.profile(r * columns + column).sum;
-    }
-    sum
+    let rows = table.survey().rows();
+    sum_of(table, (0..rows).map(|r| r * columns + column))
 }
 
 // Writes a number and a space.
 fn put_spaced(text: &mut String, number: u64) -> Result<(), Refusal>
     ensures { Adds (spaced (decimal number)) (string_bytes text.old) (string_bytes text.new) result }
 {
-    match write!(text, "{number} ") {
-        Ok(()) => Ok(()),
-        Err(_) => Err(Refusal::Memory),
-    }
+    Ok(write!(text, "{number} ")?)
 }
 
 // Writes a number and ends the line.
 fn put_ended(text: &mut String, number: u64) -> Result<(), Refusal>
     ensures { Adds (ended (decimal number)) (string_bytes text.old) (string_bytes text.new) result }
 {
-    match write!(text, "{number}\n") {
-        Ok(()) => Ok(()),
-        Err(_) => Err(Refusal::Memory),
-    }
+    Ok(write!(text, "{number}\n")?)
 }
 
 // Writes a cell and a space: a dash where it is blank, else its sum.

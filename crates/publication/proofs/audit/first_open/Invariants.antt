@@ -1,6 +1,6 @@
 -- The cells before have witnesses.
 use Rattle.survey.specs.Model.{model, size}
-use Rattle.publication.specs.Auditing.{Roomy}
+use Rattle.cut.specs.Scratched.{Roomy}
 use Rattle.search.proofs.Deciding.{Served}
 use Rattle.publication.proofs.audit.first_open.Given as goal
 

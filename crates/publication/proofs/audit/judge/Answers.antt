@@ -15,7 +15,7 @@ returns-then-lack-eq0 c =
 pub returns : goal.returns
 returns c =
     record {
-      room = record { sums = c.requires.roomy.sums; falls = c.requires.roomy.falls; rises = c.requires.roomy.rises; witness = c.requires.roomy.witness };
+      room = c.judge.ensures.room _ c.requires.roomy;
       judged = judged (model c.args.table.now.survey) c.args.pattern.now c.args.cell (model_sound c.args.table.now.survey) c.requires.inside
-          (omega (arith, c.lack.ensures, c.if-lack-eq0.false)) _ _ _ _ _ _ _ _ c.in-Ok.finding c.in-Ok.ensures;
+          (omega (arith, c.lack.ensures, c.if-lack-eq0.false)) _ _ _ _ _ _ _ _ c.in-Ok.finding c.in-Ok.ensures.found;
     }
