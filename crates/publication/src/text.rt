@@ -14,7 +14,7 @@ use std::alloc::Global;
 use std::fmt;
 use survey::refusal::Refusal;
 
-// Adds up these cells: a line of the table has forty at most.
+// Adds up these cells, forty at most: a line of the table has no more.
 fn sum_of<I: Iterator<Item = usize> + Drop>(table: &Table, cells: I) -> u64
     requires can { I.can_next cells }
     requires ends { IsFinite (I.remaining cells) }
