@@ -64,3 +64,6 @@ module _ (s : Survey) (h : Pattern) where
     unfolding Judged Audited
     first_barred cut (lacks, dash, none, least, rows, columns) =
         (record { inside = inside; lacks = lacks; none = none; before = each }, dash, least, rows, columns)
+
+-- what goes on to the first cell that is open cites
+pub ruleset audited = (shown_more, all_served, first_printed, first_barred)

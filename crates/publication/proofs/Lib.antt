@@ -1,9 +1,7 @@
 -- Lemmas of the crate.
 pub mod Example
-pub mod Lines
 pub mod OneAnswer
 pub mod Same
 pub mod Sums
-pub mod Steps
 mod Letting
 pub mod Auditing

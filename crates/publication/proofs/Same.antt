@@ -1,22 +1,22 @@
 -- The text is made of the sums and the printed cells alone.
-use Rattle.std.proofs.Common.{◌≡◌, ℕ, zero, suc, ◌+◌, ◌*◌, Bool, true, false, List, decimal, sym, refl, ap, ◌∙◌}
-use Rattle.survey.specs.Page.{Survey, Pattern, hidden, Sound, Agrees, Open, Safe}
+use Rattle.std.proofs.Common.{◌≡◌, ℕ, zero, suc, ◌+◌, ◌*◌, Bool, true, false, List, [], ◌∷◌, decimal, sym, refl, ap, ◌∙◌}
+use Rattle.survey.specs.Page.{Survey, Pattern, hidden, true_sum, Sound, Agrees, Open, Safe}
 use Rattle.survey.specs.Promise.{AddsUp}
-use Rattle.survey.specs.Survey.{row_sum, sum_of_all}
+use Rattle.survey.specs.Survey.{pick, row_sum, sum_of_all}
 use Rattle.survey.proofs.Spans.{span_cong}
 use Rattle.survey.proofs.Totals.{adds_up}
 use Rattle.publication.specs.Text.{entry, row_text, row_line, row_lines, column_text, sums_line, page_text}
 use Rattle.publication.specs.Worlds.{with_values, OpenText, SafeText, SameText}
-use Rattle.publication.proofs.Steps.{entry_blank, entry_printed}
 
 module _ (s : Survey) (h : Pattern) (w : List ℕ) (agrees : Agrees s h w) where
   -- a blank stands for any sum, and a printed cell's sum is kept
   same_entry : (d : ℕ) → entry (with_values s w) h d ≡ entry s h d
+  unfolding entry
   same_entry d = at (hidden h d) refl
     where
-      at : (b : Bool) → hidden h d ≡ b → entry (with_values s w) h d ≡ entry s h d
-      at true e = entry_blank (with_values s w) h d e ∙ sym (entry_blank s h d e)
-      at false e = entry_printed (with_values s w) h d e ∙ ap decimal (agrees.printed d e) ∙ sym (entry_printed s h d e)
+      at : (b : Bool) → hidden h d ≡ b → pick b (45 ∷ []) (decimal (true_sum (with_values s w) d)) ≡ pick b (45 ∷ []) (decimal (true_sum s d))
+      at true e = refl
+      at false e = ap decimal (agrees.printed d e)
 
   same_row_text : (r n : ℕ) → row_text (with_values s w) h r n ≡ row_text s h r n
   unfolding row_text

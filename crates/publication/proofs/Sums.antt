@@ -1,5 +1,12 @@
--- The sum of a cell is small, and rows and columns are added up cell by cell.
-use Rattle.std.proofs.Common.{◌≡◌, ℕ, ◌+◌, ◌*◌, ◌^◌, ◌<◌, ◌≤◌, sym, ap, ◌∙◌, add-one, arith}
+-- The sums of cells are small, and rows and columns are added up cell by cell.
+use Rattle.std.proofs.Common.{◌≡◌, ℕ, zero, suc, Option, ◌+◌, ◌*◌, ◌<◌, ◌≤◌, List, [], ◌∷◌, map, length, sum_by, sym, ap, ◌∙◌, add-one, arith}
+use Rattle.std.proofs.lemmas.Iterator.{YieldsList, items_from_drains}
+use Rattle.std.proofs.lemmas.Iterator.Adapters.{at_most_from_yields_List}
+use Rattle.std.proofs.lemmas.List.{map-id}
+use Rattle.std.proofs.lemmas.List.FromFn.{length-map-range_with_len, sum_by-map-range_with_len_more}
+use Rattle.std.proofs.lemmas.List.Sums.{sum_by-cons}
+use Rattle.std.specs.Iterator.{Drains, HoldsAlong}
+use Rattle.std.specs.List.{range_with_len}
 use Rattle.survey.specs.Model.{model}
 use Rattle.survey.specs.Page.{span, true_sum}
 use Rattle.survey.specs.Survey.{row_sum, column_sum}
@@ -10,41 +17,38 @@ use Rattle.survey.proofs.Facts.{model_sound, cell_small}
 use Rattle.survey.proofs.Spans.{span_none, span_suc}
 use Rattle.survey.proofs.Totals.{row_is_span, column_is_span}
 
--- what is added up of one line: so many cells, none of them large
-pub record Added (f : ℕ → ℕ) (n sum : ℕ) : Type 0 where
-  pub is : sum ≡ span f n
-  pub small : sum ≤ 20000000000000 * n
+-- a profile's sum is the sum of its cell
+pub profile_sum : (s : Survey) (p : Profile) (d : ℕ) → p ≡ profile_of (model s).cells (model s).values d → p.sum ≡ true_sum (model s) d
+profile_sum s p d is = ap (λ (x : Profile). x.sum) is
 
--- no cell yet
-pub added_none : (f : ℕ → ℕ) → Added f 0 0
-added_none f = record { is = sym (span_none f); small = omega arith }
+-- the sums of cells are small
+pub cells_small : (s : Survey) (ds : List ℕ) → sum_by (true_sum (model s)) ds ≤ 20000000000000 * length ds
+cells_small s [] = omega arith
+cells_small s (d ∷ ds) = omega (arith, sum_by-cons (true_sum (model s)) d ds, cell_small s d, cells_small s ds)
 
--- one cell more
-added_more : (f : ℕ → ℕ) (n sum v : ℕ) → Added f n sum → v ≡ f n → v ≤ 20000000000000 → Added f (n + 1) (sum + v)
-added_more f n sum v so_far here below =
-    record { is = rw add-one (omega (arith, so_far.is, span_suc f n)); small = omega (arith, so_far.small) }
+-- what is added up place by place
+by_place : (f place : ℕ → ℕ) (n : ℕ) → sum_by f (map place (range_with_len 0 n)) ≡ span (λ k. f (place k)) n
+by_place f place zero = sym (span_none (λ k. f (place k)))
+by_place f place (suc n) =
+    let more = rw (add-one n) at (sum_by-map-range_with_len_more f place 0 n n (omega arith)) in
+    omega (arith, more, by_place f place n, span_suc (λ k. f (place k)) n)
+
+-- an iterator that gives a line's cells, by their places on it
+module _ {S : Type 0} {steps : S → Option ℕ → S → Type 0} {line : S} (place : ℕ → ℕ) (n : ℕ) where
+  -- gives forty at most
+  pub line_few : n ≤ 40 → YieldsList steps (λ x. x) line (map place (range_with_len 0 n)) → HoldsAlong steps line (λ ds. length ds ≤ 40)
+  line_few few gives = (at_most_from_yields_List gives (omega (arith, length-map-range_with_len place 0 n))).runs
+
+  -- and their sum is the line's
+  pub line_sum : (f : ℕ → ℕ) (ds : List ℕ) → Drains steps line ds → YieldsList steps (λ x. x) line (map place (range_with_len 0 n)) →
+      sum_by f ds ≡ span (λ k. f (place k)) n
+  line_sum f ds all gives = ap (sum_by f) (sym (map-id ds) ∙ items_from_drains ds (all.1.0, all.1.1, λ _. (all.0, all.1.2)) gives) ∙ by_place f place n
 
 module _ (s : Survey) where
-  module _ (place : ℕ → ℕ) (n sum : ℕ) (so_far : Added (λ k. true_sum (model s) (place k)) n sum) (p : Profile) (d : ℕ) where
-    -- a profile's sum is the sum of its cell
-    sum_here : p ≡ profile_of (model s).cells (model s).values d → d ≡ place n → p.sum ≡ true_sum (model s) (place n)
-    sum_here is here = ap (λ (x : Profile). x.sum) is ∙ ap (true_sum (model s)) here
-
-    -- one cell more, by its profile
-    pub cell_added : p ≡ profile_of (model s).cells (model s).values d → d ≡ place n → Added (λ k. true_sum (model s) (place k)) (n + 1) (sum + p.sum)
-    cell_added is here =
-        added_more (λ k. true_sum (model s) (place k)) n sum p.sum so_far (sum_here is here) (omega (arith, sum_here is here, cell_small s (place n)))
-
-    -- and what is added up fits
-    pub cell_fits : p ≡ profile_of (model s).cells (model s).values d → d ≡ place n → n < 40 → sum + p.sum < 2 ^ 64
-    cell_fits is here few = omega (arith, so_far.small, sum_here is here, cell_small s (place n))
-
   -- all cells of a row
-  pub row_added : (r sum : ℕ) → Added (λ k. true_sum (model s) (r * s.columns + k)) s.columns sum →
-      sum ≡ row_sum (model s).columns (model s).cells (model s).values r
-  row_added r sum all = all.is ∙ sym (row_is_span s.columns (model s).cells (model s).values r s.some_columns)
+  pub row_added : (r : ℕ) → span (λ k. true_sum (model s) (r * s.columns + k)) s.columns ≡ row_sum (model s).columns (model s).cells (model s).values r
+  row_added r = sym (row_is_span s.columns (model s).cells (model s).values r s.some_columns)
 
   -- all cells of a column
-  pub column_added : (k sum : ℕ) → k < s.columns → Added (λ r. true_sum (model s) (r * s.columns + k)) s.rows sum →
-      sum ≡ column_sum (model s).columns (model s).cells (model s).values k
-  column_added k sum inside all = all.is ∙ sym (column_is_span s.rows s.columns (model s).cells (model s).values k inside (model_sound s).inside)
+  pub column_added : (k : ℕ) → k < s.columns → span (λ r. true_sum (model s) (r * s.columns + k)) s.rows ≡ column_sum (model s).columns (model s).cells (model s).values k
+  column_added k inside = sym (column_is_span s.rows s.columns (model s).cells (model s).values k inside (model_sound s).inside)

@@ -1,5 +1,5 @@
 -- What an audit promises: of one cell, of the pattern, and of a refusal. Assumes nothing: these are definitions.
-use Rattle.std.specs.Prelude.{◌≡◌, ℕ, ◌<◌, ◌≤◌, true, false, ◌⊎◌, length, Ok, Err, vec_len, Result}
+use Rattle.std.specs.Prelude.{◌≡◌, ℕ, ◌<◌, ◌≤◌, true, false, ◌⊎◌, length, Ok, Err, Result}
 use Rattle.survey.specs.Model.{size}
 use Rattle.survey.specs.Page.{Survey, Pattern, hidden, need, Witness}
 use Rattle.survey.specs.declared.refusal.Lent.TheVariants as lent
@@ -10,14 +10,6 @@ use Rattle.cut.specs.declared.finding.Finding.{Finding}
 use Rattle.cut.specs.declared.finding.Finding.TheVariants.{Shown, Barred, Printed}
 use Rattle.publication.specs.Audit.{Forty, Audited, answer}
 use Rattle.publication.specs.declared.audited.Audit.{Audit}
-use Rattle.publication.specs.declared.audited.Scratch.{Scratch}
-
--- there is memory for n cells
-pub record Roomy (n : ℕ) (scratch : Scratch) : Type 0 where
-  pub sums : vec_len scratch.sums ≡ n
-  pub falls : vec_len scratch.falls ≡ n
-  pub rises : vec_len scratch.rises ≡ n
-  pub witness : vec_len scratch.witness ≡ n
 
 -- what is found of one cell: it has a witness where it lacks something; or it lacks something and is printed; or it lacks
 -- something, is blank and has no witness, as the least cut shows

@@ -1,5 +1,5 @@
--- What is written to a text, and what the page's text is or why there is none. Assumes nothing: these are definitions.
-use Rattle.std.specs.Prelude.{◌≡◌, ℕ, ◌<◌, ◌≤◌, ◌⊎◌, List, ◌++◌, length, Ok, Err, string_bytes, Result, String}
+-- What the page's text and the auditor's line are, or why there is none. Assumes nothing: these are definitions.
+use Rattle.std.specs.Prelude.{◌≡◌, ◌<◌, ◌≤◌, ◌⊎◌, length, Ok, Err, string_bytes, Result, String}
 use Rattle.survey.specs.Model.{size}
 use Rattle.survey.specs.Page.{Survey, Pattern}
 use Rattle.survey.specs.declared.refusal.Lent.TheVariants as lent
@@ -7,11 +7,6 @@ use Rattle.survey.specs.declared.refusal.Refusal.{Refusal}
 use Rattle.survey.specs.declared.refusal.Refusal.TheVariants.{Short, Memory}
 use Rattle.publication.specs.Audit.{Answer, audit_line}
 use Rattle.publication.specs.Text.{page_text}
-
--- these bytes were added to a text, or there was no memory
-abbrev pub Adds : List ℕ → List ℕ → List ℕ → Result (Unit {0}) Refusal → Type 0
-Adds more before after (Ok _) = after ≡ before ++ more
-Adds more before after (Err e) = e ≡ Memory
 
 -- the page's text; or the pattern is too short, or there was no memory
 abbrev pub Published : {Z : Type 0} → Survey → Pattern → Result (String Z) Refusal → Type 0

@@ -6,6 +6,7 @@ ghost use Rattle.publication.specs.Worlds.{SameText};
 
 pub mod audit;
 pub mod audited;
+mod page;
 pub mod publishing;
 pub mod text;
 

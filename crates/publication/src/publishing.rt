@@ -13,8 +13,6 @@ pub fn publish(heap: Global, table: &Table) -> Result<String, Refusal>
     ensures { Publishes (model table.now.survey) result }
 {
     let mut pattern = vec![in heap; false; table.survey().cells()]?;
-    match search(heap, table, &mut pattern) {
-        Ok(()) => page_text(heap, table, &pattern),
-        Err(refusal) => Err(refusal),
-    }
+    search(heap, table, &mut pattern)?;
+    page_text(heap, table, &pattern)
 }

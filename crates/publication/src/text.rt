@@ -1,14 +1,28 @@
 // The page as text: one line a row, with a dash for each blank and the row's sum last; the sums of the columns on the
 // last line, with the sum of all turnovers last.
-ghost use Rattle.std.specs.Prelude.{◌≡◌, ℕ, ◌+◌, ◌*◌, ◌<◌, ◌≤◌, Bool, List, [], ◌∷◌, ◌++◌, length, string_bytes, decimal};
+ghost use Rattle.std.specs.Prelude.{◌≡◌, ℕ, ◌+◌, ◌*◌, ◌<◌, ◌≤◌, Bool, List, [], ◌∷◌, ◌++◌, length, Some, sum_by, string_bytes, decimal};
+ghost use Rattle.std.specs.Iterator.{Drains, HoldsAlong, IsFinite};
 ghost use Rattle.survey.specs.Model.{model, size};
+ghost use Rattle.survey.specs.Page.{true_sum};
 ghost use Rattle.survey.specs.Survey.{row_sum, column_sum, sum_of_all};
-ghost use Rattle.publication.specs.Text.{spaced, ended, entry, row_text, row_line, row_lines, column_text, sums_line};
-ghost use Rattle.publication.specs.Written.{Adds, Published};
+ghost use Rattle.publication.specs.Text.{entry, row_line, sums_line, page_text};
+ghost use Rattle.publication.specs.Written.{Published};
 
+use crate::page::Page;
 use sensitivity::table::Table;
 use std::alloc::Global;
-use survey::refusal::{Lent, Refusal};
+use std::fmt;
+use survey::refusal::Refusal;
+
+// Adds up these cells, forty at most: a line of the table has no more.
+fn sum_of<I: Iterator<Item = usize> + Drop>(table: &Table, cells: I) -> u64
+    requires can { I.can_next cells }
+    requires ends { IsFinite (I.remaining cells) }
+    requires few { HoldsAlong I.next_gives cells (λ ds. length ds ≤ 40) }
+    ensures { (ds : List ℕ) × Drains I.next_gives cells ds × (result ≡ sum_by (true_sum (model table.now.survey)) ds) }
+{
+    cells.map(|cell| table.profile(cell).sum).sum()
+}
 
 // Adds up the cells of a row.
 fn row_sum(table: &Table, row: usize) -> u64
@@ -16,11 +30,7 @@ fn row_sum(table: &Table, row: usize) -> u64
     ensures { result ≡ row_sum (model table.now.survey).columns (model table.now.survey).cells (model table.now.survey).values row }
 {
     let columns = table.survey().columns();
-    let mut sum: u64 = 0;
-    for k in 0..columns {
-        sum += table.profile(row * columns + k).sum;
-    }
-    sum
+    sum_of(table, (0..columns).map(|k| row * columns + k))
 }
 
 // Adds up the cells of a column.
@@ -29,108 +39,87 @@ fn column_sum(table: &Table, column: usize) -> u64
     ensures { result ≡ column_sum (model table.now.survey).columns (model table.now.survey).cells (model table.now.survey).values column }
 {
     let columns = table.survey().columns();
-    let mut sum: u64 = 0;
-    for r in 0..table.survey().rows() {
-        sum += table.profile(r * columns + column).sum;
-    }
-    sum
+    let rows = table.survey().rows();
+    sum_of(table, (0..rows).map(|r| r * columns + column))
 }
 
-// Writes a number and a space.
-fn put_spaced(text: &mut String, number: u64) -> Result<(), Refusal>
-    ensures { Adds (spaced (decimal number)) (string_bytes text.old) (string_bytes text.new) result }
-{
-    match write!(text, "{number} ") {
-        Ok(()) => Ok(()),
-        Err(_) => Err(Refusal::Memory),
-    }
+// What stands for a cell: a dash where it is blank, else its sum.
+#[derive(Clone, Copy)]
+struct Entry<'a> {
+    page: Page<'a>,
+    cell: usize,
+    ghost inside: { cell < size (model page.table.now.survey) },
 }
 
-// Writes a number and ends the line.
-fn put_ended(text: &mut String, number: u64) -> Result<(), Refusal>
-    ensures { Adds (ended (decimal number)) (string_bytes text.old) (string_bytes text.new) result }
-{
-    match write!(text, "{number}\n") {
-        Ok(()) => Ok(()),
-        Err(_) => Err(Refusal::Memory),
-    }
+// The line of a row: its cells, and its sum last.
+#[derive(Clone, Copy)]
+struct Row<'a> {
+    page: Page<'a>,
+    row: usize,
+    ghost inside: { row < (model page.table.now.survey).rows },
 }
 
-// Writes a cell and a space: a dash where it is blank, else its sum.
-fn put_cell(table: &Table, pattern: &[bool], cell: usize, text: &mut String) -> Result<(), Refusal>
-    requires { cell < length pattern.now }
-    ensures { Adds (spaced (entry (model table.now.survey) pattern.now cell)) (string_bytes text.old) (string_bytes text.new) result }
-{
-    let blank = pattern[cell];
-    if blank {
-        text.push_str("- ")?;
-        Ok(())
-    } else {
-        put_spaced(text, table.profile(cell).sum)
+// The last line: the sums of the columns, and the sum of all turnovers last.
+#[derive(Clone, Copy)]
+struct Sums<'a>(&'a Table);
+
+#[tactic(auto, unfolding(crate::specs::Text::entry))]
+impl fmt::Display for Entry<'_> {
+    ghost output = { λ e. Some (entry (model e.page.table.now.survey) e.page.pattern.now e.cell) };
+
+    fn fmt<W: fmt::Write>(&self, f: &mut fmt::Formatter<W>) -> fmt::Result {
+        if self.page.pattern[self.cell] {
+            write!(f, "-")
+        } else {
+            write!(f, "{}", self.page.table.profile(self.cell).sum)
+        }
     }
 }
 
-// Writes the cells of a row.
-fn put_cells(table: &Table, pattern: &[bool], row: usize, text: &mut String) -> Result<(), Refusal>
-    requires enough { size (model table.now.survey) ≤ length pattern.now }
-    requires inside { row < (model table.now.survey).rows }
-    ensures { Adds (row_text (model table.now.survey) pattern.now row (model table.now.survey).columns) (string_bytes text.old) (string_bytes text.new) result }
-{
-    let columns = table.survey().columns();
-    for k in 0..columns {
-        put_cell(table, pattern, row * columns + k, text)?;
+#[tactic(auto, unfolding(crate::specs::Text::row_text, crate::specs::Text::row_line))]
+impl fmt::Display for Row<'_> {
+    ghost output = { λ r. Some (row_line (model r.page.table.now.survey) r.page.pattern.now r.row) };
+
+    fn fmt<W: fmt::Write>(&self, f: &mut fmt::Formatter<W>) -> fmt::Result {
+        let page = self.page;
+        let columns = page.table.survey().columns();
+        for k in 0..columns {
+            let cell = self.row * columns + k;
+            write!(f, "{} ", Entry { page, cell })?;
+        }
+        writeln!(f, "{}", row_sum(page.table, self.row))
     }
-    Ok(())
 }
 
-// Writes the line of a row.
-fn put_row(table: &Table, pattern: &[bool], row: usize, text: &mut String) -> Result<(), Refusal>
-    requires enough { size (model table.now.survey) ≤ length pattern.now }
-    requires inside { row < (model table.now.survey).rows }
-    ensures { Adds (row_line (model table.now.survey) pattern.now row) (string_bytes text.old) (string_bytes text.new) result }
-{
-    put_cells(table, pattern, row, text)?;
-    put_ended(text, row_sum(table, row))
-}
+#[tactic(auto, unfolding(crate::specs::Text::column_text, crate::specs::Text::sums_line))]
+impl fmt::Display for Sums<'_> {
+    ghost output = { λ s. Some (sums_line (model s.0.now.survey)) };
 
-// Writes the lines of all rows.
-fn put_rows(table: &Table, pattern: &[bool], text: &mut String) -> Result<(), Refusal>
-    requires { size (model table.now.survey) ≤ length pattern.now }
-    ensures { Adds (row_lines (model table.now.survey) pattern.now (model table.now.survey).rows) (string_bytes text.old) (string_bytes text.new) result }
-{
-    for row in 0..table.survey().rows() {
-        put_row(table, pattern, row, text)?;
+    fn fmt<W: fmt::Write>(&self, f: &mut fmt::Formatter<W>) -> fmt::Result {
+        let survey = self.0.survey();
+        for column in 0..survey.columns() {
+            write!(f, "{} ", column_sum(self.0, column))?;
+        }
+        writeln!(f, "{}", survey.total())
     }
-    Ok(())
 }
 
-// Writes the sums of the columns.
-fn put_columns(table: &Table, text: &mut String) -> Result<(), Refusal>
-    ensures { Adds (column_text (model table.now.survey) (model table.now.survey).columns) (string_bytes text.old) (string_bytes text.new) result }
-{
-    for column in 0..table.survey().columns() {
-        put_spaced(text, column_sum(table, column))?;
+#[tactic(auto, unfolding(crate::specs::Text::row_lines, crate::specs::Text::page_text))]
+impl fmt::Display for Page<'_> {
+    ghost output = { λ p. Some (page_text (model p.table.now.survey) p.pattern.now) };
+
+    fn fmt<W: fmt::Write>(&self, f: &mut fmt::Formatter<W>) -> fmt::Result {
+        for row in 0..self.table.survey().rows() {
+            write!(f, "{}", Row { page: *self, row })?;
+        }
+        write!(f, "{}", Sums(self.table))
     }
-    Ok(())
-}
-
-// Writes the last line.
-fn put_sums(table: &Table, text: &mut String) -> Result<(), Refusal>
-    ensures { Adds (sums_line (model table.now.survey)) (string_bytes text.old) (string_bytes text.new) result }
-{
-    put_columns(table, text)?;
-    put_ended(text, table.survey().total())
 }
 
 // The text of the page with these blanks. A pattern with fewer entries than the table has cells is refused.
 pub fn page_text(heap: Global, table: &Table, pattern: &[bool]) -> Result<String, Refusal>
     ensures { Published (model table.now.survey) pattern.now result }
 {
-    if pattern.len() < table.survey().cells() {
-        return Err(Refusal::Short(Lent::Pattern));
-    }
-    let mut text = String::new(heap);
-    put_rows(table, pattern, &mut text)?;
-    put_sums(table, &mut text)?;
-    Ok(text)
+    let page = Page::new(table, pattern)?;
+    Ok(page.to_string(heap)?)
 }

@@ -7,10 +7,10 @@ use Rattle.publication.specs.Written.{Published}
 use Rattle.publication.proofs.Letting.{wrote_found, publishes}
 use Rattle.publication.proofs.publishing.publish.Goals as goal
 
-pub returns-in-Ok : goal.returns-in-Ok
-returns-in-Ok c =
+pub returns : goal.returns
+returns c =
     let s = model c.args.table.now.survey in
-    let made = c.in-Ok.ensures.1 in
+    let made = c.in_ok-search.ensures.1 in
     let wide = c.cells.ensures.value ∙ ap (λ t. size (model t)) c.survey.ensures in
     let held = with_items_is c.in_ok-pattern.pattern c.search.new.pattern (c.search.auto.pattern ∙ c.deref_mut.ensures.len) in
     let wrote = held ∙ wrote_found s made.0 _ _ made.1 (c.deref_mut.ensures.len ∙ c.in_ok-pattern.ensures.len ∙ wide) made.2 in
