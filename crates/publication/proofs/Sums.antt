@@ -1,10 +1,9 @@
 -- The sums of cells are small, and rows and columns are added up cell by cell.
-use Rattle.std.proofs.Common.{◌≡◌, ℕ, zero, suc, Option, ◌+◌, ◌*◌, ◌<◌, ◌≤◌, List, [], ◌∷◌, map, length, sum_by, sym, ap, ◌∙◌, add-one, arith}
+use Rattle.std.proofs.Common.{◌≡◌, ℕ, Option, ◌+◌, ◌*◌, ◌<◌, ◌≤◌, List, map, length, sum_by, sym, ap, ◌∙◌, arith}
 use Rattle.std.proofs.lemmas.Iterator.{YieldsList, items_from_drains}
 use Rattle.std.proofs.lemmas.Iterator.Adapters.{at_most_from_yields_List}
 use Rattle.std.proofs.lemmas.List.{map-id}
-use Rattle.std.proofs.lemmas.List.FromFn.{length-map-range_with_len, sum_by-map-range_with_len_more}
-use Rattle.std.proofs.lemmas.List.Sums.{sum_by-cons}
+use Rattle.std.proofs.lemmas.List.FromFn.{length-map-range_with_len}
 use Rattle.std.specs.Iterator.{Drains, HoldsAlong}
 use Rattle.std.specs.List.{range_with_len}
 use Rattle.survey.specs.Model.{model}
@@ -14,8 +13,8 @@ use Rattle.survey.specs.declared.checked.Survey.{Survey}
 use Rattle.sensitivity.specs.Profiles.{profile_of}
 use Rattle.sensitivity.specs.declared.profile.Profile.{Profile}
 use Rattle.survey.proofs.Facts.{model_sound, cell_small}
-use Rattle.survey.proofs.Spans.{span_none, span_suc}
 use Rattle.survey.proofs.Totals.{row_is_span, column_is_span}
+use Rattle.cut.proofs.Ranges.{by_place, at_most}
 
 -- a profile's sum is the sum of its cell
 pub profile_sum : (s : Survey) (p : Profile) (d : ℕ) → p ≡ profile_of (model s).cells (model s).values d → p.sum ≡ true_sum (model s) d
@@ -23,15 +22,7 @@ profile_sum s p d is = ap (λ (x : Profile). x.sum) is
 
 -- the sums of cells are small
 pub cells_small : (s : Survey) (ds : List ℕ) → sum_by (true_sum (model s)) ds ≤ 20000000000000 * length ds
-cells_small s [] = omega arith
-cells_small s (d ∷ ds) = omega (arith, sum_by-cons (true_sum (model s)) d ds, cell_small s d, cells_small s ds)
-
--- what is added up place by place
-by_place : (f place : ℕ → ℕ) (n : ℕ) → sum_by f (map place (range_with_len 0 n)) ≡ span (λ k. f (place k)) n
-by_place f place zero = sym (span_none (λ k. f (place k)))
-by_place f place (suc n) =
-    let more = rw (add-one n) at (sum_by-map-range_with_len_more f place 0 n n (omega arith)) in
-    omega (arith, more, by_place f place n, span_suc (λ k. f (place k)) n)
+cells_small s ds = at_most (true_sum (model s)) 20000000000000 ds (cell_small s)
 
 -- an iterator that gives a line's cells, by their places on it
 module _ {S : Type 0} {steps : S → Option ℕ → S → Type 0} {line : S} (place : ℕ → ℕ) (n : ℕ) where
