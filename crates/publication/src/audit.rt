@@ -86,7 +86,7 @@ impl Page<'_> {
         finding
     }
 
-    // Judges cell after cell, up to the first that is open.
+    // Judges cell after cell, up to the first that is open: a loop, since each is judged in the same memory.
     #[tactic(auto, using(crate::proofs::Auditing::audited))]
     fn first_open(&self, scratch: &mut Scratch) -> Audit
         requires { Roomy (size (model self.now.table.now.survey)) scratch.old }
