@@ -245,9 +245,9 @@ fn cuts(rt: HostRuntime) -> Result<(), Fail> {
 fn blank_occupied(workshops: &[(u16, u32)], pattern: &mut [bool])
     ensures { length pattern.new ≡ length pattern.old }
 {
-    for (cell, _) in workshops.iter() {
-        if (*cell as usize) < pattern.len() {
-            pattern[*cell as usize] = true;
+    for (cell, _) in workshops {
+        if let Some(blank) = pattern.get_mut(*cell as usize) {
+            *blank = true;
         }
     }
 }
@@ -271,18 +271,13 @@ fn three_fall(rt: HostRuntime) -> Result<(), Fail> {
     let table = table_of(rt.alloc(), 3, 3, &list)?;
     let mut pattern = [false; 9];
     blank_occupied(&list, &mut pattern);
-    let mut witness = [0; 9];
-    let shown = witness_or_cut(
-        &table,
-        &pattern,
-        0,
-        &mut [0; 9],
-        &mut [0; 9],
-        &mut [0; 9],
-        &mut witness,
-    )?;
+    let mut scratch = Scratch::new(rt.alloc(), 9)?;
+    let shown = scratch.judge(&table, &pattern, 0)?;
     assert!(rt; matches!(shown, Finding::Shown));
-    assert_eq!(rt; witness, [115, 25, 0, 0, 55, 25, 25, 0, 55]);
+    assert_eq!(rt;
+        scratch.witness.as_slice(),
+        [115, 25, 0, 0, 55, 25, 25, 0, 55].as_slice()
+    );
     Ok(())
 }
 
@@ -300,20 +295,14 @@ fn taken_back(rt: HostRuntime) -> Result<(), Fail> {
     let table = table_of(rt.alloc(), 5, 5, list.as_slice())?;
     let mut pattern = [false; 25];
     blank_occupied(list.as_slice(), &mut pattern);
-    let mut falls = [0; 25];
-    let mut rises = [0; 25];
-    let mut witness = [0; 25];
-    let shown = witness_or_cut(
-        &table,
-        &pattern,
-        0,
-        &mut [0; 25],
-        &mut falls,
-        &mut rises,
-        &mut witness,
-    )?;
+    let mut scratch = Scratch::new(rt.alloc(), 25)?;
+    let shown = scratch.judge(&table, &pattern, 0)?;
     assert!(rt; matches!(shown, Finding::Shown));
-    assert_eq!(rt; [falls[7], rises[7], witness[7]], [10, 10, 20]);
+    let witness = &scratch.witness;
+    assert_eq!(rt;
+        [scratch.falls[7], scratch.rises[7], witness[7]],
+        [10, 10, 20]
+    );
     assert_eq!(rt;
         [
             witness[0],
@@ -346,16 +335,9 @@ fn long_way(rt: HostRuntime) -> Result<(), Fail> {
     let table = table_of(rt.alloc(), 40, 40, list.as_slice())?;
     let mut pattern = [false; 1600];
     blank_occupied(list.as_slice(), &mut pattern);
-    let mut witness = [0; 1600];
-    let shown = witness_or_cut(
-        &table,
-        &pattern,
-        0,
-        &mut [0; 1600],
-        &mut [0; 1600],
-        &mut [0; 1600],
-        &mut witness,
-    )?;
+    let mut scratch = Scratch::new(rt.alloc(), 1600)?;
+    let shown = scratch.judge(&table, &pattern, 0)?;
+    let witness = &scratch.witness;
     assert!(rt; matches!(shown, Finding::Shown));
     assert_eq!(rt;
         [
@@ -369,15 +351,7 @@ fn long_way(rt: HostRuntime) -> Result<(), Fail> {
         [115, 25, 55, 25, 55, 25]
     );
     pattern[1560] = false;
-    let barred = witness_or_cut(
-        &table,
-        &pattern,
-        0,
-        &mut [0; 1600],
-        &mut [0; 1600],
-        &mut [0; 1600],
-        &mut witness,
-    )?;
+    let barred = scratch.judge(&table, &pattern, 0)?;
     assert!(rt; matches!(barred, Finding::Barred(_)));
     Ok(())
 }
@@ -387,28 +361,12 @@ fn long_way(rt: HostRuntime) -> Result<(), Fail> {
 fn lone_across(rt: HostRuntime) -> Result<(), Fail> {
     let heap = rt.alloc();
     let b = table_of(heap, 2, 2, &ONE_LONE)?;
-    let mut witness = [0; 4];
-    let shown = witness_or_cut(
-        &b,
-        &[true; 4],
-        0,
-        &mut [0; 4],
-        &mut [0; 4],
-        &mut [0; 4],
-        &mut witness,
-    )?;
+    let mut scratch = Scratch::new(heap, 4)?;
+    let shown = scratch.judge(&b, &[true; 4], 0)?;
     assert!(rt; matches!(shown, Finding::Shown));
-    assert_eq!(rt; witness, [115, 45, 45, 75]);
+    assert_eq!(rt; scratch.witness.as_slice(), [115, 45, 45, 75].as_slice());
     let e = table_of(heap, 2, 2, &TWO_LONE)?;
-    let barred = witness_or_cut(
-        &e,
-        &[true; 4],
-        0,
-        &mut [0; 4],
-        &mut [0; 4],
-        &mut [0; 4],
-        &mut witness,
-    )?;
+    let barred = scratch.judge(&e, &[true; 4], 0)?;
     assert!(rt; matches!(barred, Finding::Barred(_)));
     Ok(())
 }
