@@ -104,7 +104,7 @@ fn checked_workshop(bytes: &[u8], i: usize, cells: usize) -> Result<Workshop, Re
     Ok(Workshop { cell, turnover })
 }
 
-// Looks at all workshops; the first that is refused decides.
+// Looks at all workshops, by number since a refusal tells it; the first that is refused decides.
 pub(crate) fn check_workshops(bytes: &[u8], cells: usize, workshops: usize) -> Result<(), Refusal>
     requires { length bytes.now ≡ 5 + 6 * workshops }
     ensures { MatchResult result (λ _. first_bad bytes.now cells 0 workshops ≡ None) (λ e. first_bad bytes.now cells 0 workshops ≡ Some e) }
