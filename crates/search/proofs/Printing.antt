@@ -12,7 +12,7 @@ use Rattle.search.specs.Moves.{bit_of}
 use Rattle.search.specs.declared.lacking.Lacking.{Lacking}
 use Rattle.search.specs.declared.moves.Moves.{Moves}
 use Rattle.search.proofs.Keeping.{known_more, kept_printing}
-use Rattle.search.proofs.Listing.{Finds, Served, cell_at, served_next}
+use Rattle.search.proofs.Listing.{LookedAt, Served, cell_at, served_next}
 use Rattle.search.proofs.Witnesses.{printed_fewer}
 
 -- a cell of a table of at most forty rows and columns lies in one of forty rows and columns
@@ -58,7 +58,7 @@ module _ (s : Survey) (h : Pattern) (d : ℕ) (ls : List Lacking) (i : ℕ) (so_
 
   module _ (below : i < length ls) (at : cell_at ls i ≡ get_or (lacking_cells s) i 0) where
     -- a witness is found
-    pub printing_found : (ls' : List Lacking) (m : Moves) → Finds ls i m ls' → Kept s (set h d false) (cell_at ls i) m → Printing s h d ls' (i + 1)
+    pub printing_found : (ls' : List Lacking) (m : Moves) → LookedAt ls i (Some m) ls' → Kept s (set h d false) (cell_at ls i) m → Printing s h d ls' (i + 1)
     printing_found ls' m found kept = record {
       done = rw found (AllWithin-more_set ls i _ below (Known s (set h d false)) so_far.done kept);
       rest = λ k z from less.

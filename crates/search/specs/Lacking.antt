@@ -11,6 +11,10 @@ use Rattle.search.specs.declared.moves.Moves.{Moves}
 abbrev pub lacking_cells : Survey → List ℕ
 lacking_cells s = filter (λ c. nat_lt 0 (need s c)) (range_with_len 0 (size s))
 
+-- the cells of a list in which each stands with what is known of it
+abbrev pub cells_lacking : List Lacking → List ℕ
+cells_lacking ls = map (λ (l : Lacking). l.cell) ls
+
 -- a cell of which no witness is known
 abbrev pub unknown : ℕ → Lacking
 unknown c = record { cell = c; moves = None }
