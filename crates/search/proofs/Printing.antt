@@ -1,12 +1,12 @@
 -- The state of the search while one cell is tried as printed. Assumes nothing.
-use Rattle.std.proofs.Common.{◌≡◌, ℕ, ◌+◌, ◌*◌, ◌/◌, ◌%◌, ◌<◌, ◌≤◌, Bool, true, false, ◌≢◌, List, Some, length, get_or, set, map, refl, sym, ap, ◌∙◌, subst, inl, inr, arith}
+use Rattle.std.proofs.Common.{◌≡◌, ℕ, ◌+◌, ◌*◌, ◌/◌, ◌%◌, ◌<◌, ◌≤◌, Bool, true, false, List, Some, length, get_or, set, ap, ◌∙◌, subst, inl, inr, arith}
 use Rattle.std.specs.List.{All, AllWithin}
 use Rattle.std.proofs.lemmas.Nat.{div_below, mod_below}
 use Rattle.std.proofs.lemmas.List.{get_or-set_other, get_or_default, length-set, set-set, set-get_or}
-use Rattle.std.proofs.lemmas.List.Elements.{AllWithin-more_set, AllWithin-more, AllWithin-none, AllWithin-from_all, All-from_all_within, All-weaker}
-use Rattle.std.proofs.lemmas.Bool.{cases_eq, cases_lt}
+use Rattle.std.proofs.lemmas.List.Elements.{AllWithin-more_set, AllWithin-more, AllWithin-none, AllWithin-from_all}
+use Rattle.std.proofs.lemmas.Bool.{cases_lt}
 use Rattle.survey.specs.Model.{size}
-use Rattle.survey.specs.Page.{Survey, Pattern, hidden, need, Witness, Protected}
+use Rattle.survey.specs.Page.{Survey, Pattern, hidden, need, Witness}
 use Rattle.search.specs.Lacking.{Kept, Known, lacking_cells, unknown}
 use Rattle.search.specs.Moves.{bit_of}
 use Rattle.search.specs.declared.lacking.Lacking.{Lacking}

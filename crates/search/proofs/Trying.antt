@@ -1,10 +1,10 @@
 -- A trial whose pattern changes. Assumes nothing.
-use Rattle.std.proofs.Common.{◌≡◌, ℕ, ◌<◌, true, false, List, length, get_or, set, sym, ◌∙◌, ap, inl, inr, arith}
+use Rattle.std.proofs.Common.{◌≡◌, ℕ, true, false, List, length, set, ◌∙◌, inl, inr, arith}
 use Rattle.std.proofs.lemmas.Bool.{both_ways, cases_eq, cases_lt}
-use Rattle.std.proofs.lemmas.List.{length-set, get_or-set_same, get_or-set_other, get_or_past}
+use Rattle.std.proofs.lemmas.List.{get_or-set_same, get_or-set_other, get_or_past}
 use Rattle.std.proofs.lemmas.List.Elements.{All-weaker}
 use Rattle.survey.specs.Model.{size}
-use Rattle.survey.specs.Page.{Survey, Pattern, Protected, hidden, need}
+use Rattle.survey.specs.Page.{Survey, Pattern, hidden}
 use Rattle.cut.specs.Scratched.{Roomy}
 use Rattle.cut.specs.declared.scratch.Scratch.{Scratch}
 use Rattle.search.specs.Lacking.{Known}

@@ -1,8 +1,8 @@
 -- The cells that lack something, listed, and the witnesses that are known of them. Assumes nothing: these are definitions.
 use Rattle.std.specs.Prelude.{◌≡◌, ℕ, ◌+◌, ◌*◌, ◌<◌, false, List, filter, map, None, IfSome, nat_lt, slice_index}
-use Rattle.std.specs.List.{All, range_with_len}
+use Rattle.std.specs.List.{range_with_len}
 use Rattle.survey.specs.Model.{size}
-use Rattle.survey.specs.Page.{Survey, Pattern, hidden, need, true_sum, Witness}
+use Rattle.survey.specs.Page.{Survey, Pattern, need, true_sum, Witness}
 use Rattle.search.specs.Moves.{bit_of}
 use Rattle.search.specs.declared.lacking.Lacking.{Lacking}
 use Rattle.search.specs.declared.moves.Moves.{Moves}

@@ -71,9 +71,8 @@ impl<'a> Trial<'a> {
         let mut scratch = Scratch::new(heap, cells)?;
         let mut pattern = vec![in heap; true; cells]?;
         first_open(table, &lacking, &pattern, &mut scratch)?;
-        let Ok(()) = blank_lacking(table, &mut pattern) else {
-            unreachable()
-        };
+        // the pattern has an entry for each cell
+        blank_lacking(table, &mut pattern).unwrap();
         Ok(Trial {
             table,
             pattern,
@@ -86,8 +85,7 @@ impl<'a> Trial<'a> {
     // protected stays so: the search goes on from the first cell that is not.
     pub(crate) fn blank_enough(&mut self, order: &[Ranked]) -> usize
         requires ordered { InOrder self.old.survey (cells_of order.now) }
-        requires first { self.old.pattern ≡ blanked self.old.survey [] }
-        requires can { Protected self.old.survey (all_hidden (size self.old.survey)) }
+        requires begins { Begins self.old.survey self.old }
         ensures same { self.new.survey ≡ self.old.survey }
         ensures enough { LeastEnough self.old.survey (cells_of order.now) result }
         ensures blanks { self.new.pattern ≡ blanked self.old.survey (take result (cells_of order.now)) }

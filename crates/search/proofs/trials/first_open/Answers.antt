@@ -1,7 +1,7 @@
 -- One cell more has a witness, or is the first that has none.
-use Rattle.std.proofs.Common.{◌≡◌, ◌<◌, not, length, refl, sym, ◌∙◌, ap, subst, arith}
+use Rattle.std.proofs.Common.{◌<◌, not, length, refl, ◌∙◌, ap, subst, arith}
 use Rattle.survey.specs.Model.{model, size}
-use Rattle.survey.specs.Page.{Witness, hidden}
+use Rattle.survey.specs.Page.{Witness}
 use Rattle.survey.specs.Promise.{all_hidden}
 use Rattle.search.proofs.Keeping.{looked_some, looked_none}
 use Rattle.search.proofs.Listing.{Served, cell_at, listed_at, listed_long, listed_inside, served_next, served_all, served_refuses}

@@ -1,12 +1,12 @@
 -- A cell has a witness, or another is made blank.
-use Rattle.std.proofs.Common.{◌≡◌, ◌+◌, ◌<◌, true, false, length, set, refl, sym, ◌∙◌, ap, subst, arith}
+use Rattle.std.proofs.Common.{◌≡◌, ◌<◌, true, length, refl, sym, ◌∙◌, ap, subst, arith}
 use Rattle.std.proofs.lemmas.List.{length-set}
-use Rattle.survey.specs.Model.{model, size}
-use Rattle.survey.specs.Page.{Pattern, Witness, hidden}
+use Rattle.survey.specs.Model.{model}
+use Rattle.survey.specs.Page.{Witness}
 use Rattle.search.specs.Ranking.{cells_of}
 use Rattle.search.specs.Trials.{Tried}
-use Rattle.search.proofs.Blanking.{blanking_none, blanking_all, next, ranked_at}
-use Rattle.search.proofs.Keeping.{looked_known, looked_some, looked_none}
+use Rattle.search.proofs.Blanking.{blanking_all, next, ranked_at}
+use Rattle.search.proofs.Keeping.{looked_known, looked_some}
 use Rattle.search.proofs.Listing.{cell_at, listed_at, listed_long, listed_inside, listed_lacks, served_next, served_more, served_all, looked_listed, looked_known_all}
 use Rattle.search.proofs.Trying.{blank_still, tries_more}
 use Rattle.search.proofs.trials.Trial.blank_enough.Goals as goal
@@ -25,24 +25,24 @@ look-moves-requires-clause-blank c =
 
 pub bounds-order-k : goal.bounds-order-k
 bounds-order-k c =
-    (next _ _ c.blanks.k _ c.blanks.invariant.so_far _ (ap (λ (t : Tried). t.survey) c.self.view_is) c.requires.ordered c.requires.can c.loop-lack.lack-items c.loop-lack.invariant.tries.listed
+    (next _ _ c.blanks.k _ c.blanks.invariant.so_far _ (ap (λ (t : Tried). t.survey) c.self.view_is) c.requires.ordered c.requires.begins.can c.loop-lack.lack-items c.loop-lack.invariant.tries.listed
     c.loop-lack.lack-index (omega arith) c.look-moves.result (rw c.deref.ensures.value at c.look-moves.ensures.found) (sym c.is_some.ensures ∙ c.if-is_some.false)).room
 
 pub index_mut-requires : goal.index_mut-requires
 index_mut-requires c =
-    let next = next _ _ c.blanks.k _ c.blanks.invariant.so_far _ (ap (λ (t : Tried). t.survey) c.self.view_is) c.requires.ordered c.requires.can c.loop-lack.lack-items c.loop-lack.invariant.tries.listed
+    let next = next _ _ c.blanks.k _ c.blanks.invariant.so_far _ (ap (λ (t : Tried). t.survey) c.self.view_is) c.requires.ordered c.requires.begins.can c.loop-lack.lack-items c.loop-lack.invariant.tries.listed
     c.loop-lack.lack-index (omega arith) c.look-moves.result (rw c.deref.ensures.value at c.look-moves.ensures.found) (sym c.is_some.ensures ∙ c.if-is_some.false) in
     omega (arith, next.inside, c.blanks.invariant.long, c.blanks.pattern.ok.0)
 
 pub blanks-smaller : goal.blanks-smaller
 blanks-smaller c =
-    let next = next _ _ c.blanks.k _ c.blanks.invariant.so_far _ (ap (λ (t : Tried). t.survey) c.self.view_is) c.requires.ordered c.requires.can c.loop-lack.lack-items c.loop-lack.invariant.tries.listed
+    let next = next _ _ c.blanks.k _ c.blanks.invariant.so_far _ (ap (λ (t : Tried). t.survey) c.self.view_is) c.requires.ordered c.requires.begins.can c.loop-lack.lack-items c.loop-lack.invariant.tries.listed
     c.loop-lack.lack-index (omega arith) c.look-moves.result (rw c.deref.ensures.value at c.look-moves.ensures.found) (sym c.is_some.ensures ∙ c.if-is_some.false) in
     omega (arith, next.room)
 
 pub blanks-preserved : goal.blanks-preserved
 blanks-preserved c =
-    let next = next _ _ c.blanks.k _ c.blanks.invariant.so_far _ (ap (λ (t : Tried). t.survey) c.self.view_is) c.requires.ordered c.requires.can c.loop-lack.lack-items c.loop-lack.invariant.tries.listed
+    let next = next _ _ c.blanks.k _ c.blanks.invariant.so_far _ (ap (λ (t : Tried). t.survey) c.self.view_is) c.requires.ordered c.requires.begins.can c.loop-lack.lack-items c.loop-lack.invariant.tries.listed
     c.loop-lack.lack-index (omega arith) c.look-moves.result (rw c.deref.ensures.value at c.look-moves.ensures.found) (sym c.is_some.ensures ∙ c.if-is_some.false) in
     record {
       roomy = c.look-moves.ensures.room;

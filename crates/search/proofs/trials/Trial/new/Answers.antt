@@ -1,19 +1,17 @@
 -- What was made is as the first look and the trial ask for it.
-use Rattle.std.proofs.Common.{◌≡◌, ℕ, [], length, map, refl, sym, ap, ◌∙◌, subst}
+use Rattle.std.proofs.Common.{◌≡◌, [], length, refl, ap, ◌∙◌}
 use Rattle.std.proofs.lemmas.List.{map-id, with_items_is}
 use Rattle.std.proofs.lemmas.List.Elements.{All-map}
 use Rattle.std.proofs.lemmas.Simd.{map-map}
 use Rattle.std.specs.Vec.{with_items}
 use Rattle.survey.specs.Model.{model, size}
 use Rattle.survey.specs.Promise.{all_hidden}
-use Rattle.cut.specs.Scratched.{Roomy}
 use Rattle.cut.proofs.Scratched.{cleared_roomy}
-use Rattle.search.specs.Lacking.{Known, cells_lacking, lacking_cells, unknown}
+use Rattle.search.specs.Lacking.{Known, lacking_cells, unknown}
 use Rattle.search.specs.Search.{blanked}
-use Rattle.search.specs.declared.lacking.Lacking.{Lacking}
 use Rattle.search.proofs.Patterns.{blanked_first, blanked_lacking, length_blanked, replicate_hidden}
 use Rattle.search.proofs.trials.Trial.new.Goals as goal
-use Rattle.search.proofs.trials.Trial.new.Goals.{In-Ok}
+use Rattle.search.proofs.trials.Trial.new.Goals.{After-unwrap}
 
 pub first_open-requires : goal.first_open-requires
 first_open-requires c =
@@ -26,10 +24,11 @@ first_open-requires c =
     }
 
 -- the table's pattern is the first of the rule
-first : (c : In-Ok) → (with_items c.in_ok-pattern.pattern c.blank_lacking.new.pattern).items ≡ blanked (model c.args.table.now.survey) []
+first : (c : After-unwrap) → (with_items c.in_ok-pattern.pattern c.blank_lacking.new.pattern).items ≡ blanked (model c.args.table.now.survey) []
 first c =
     let s = model c.args.table.now.survey in
-    let wrote = c.in-Ok.ensures.1 in
+    let filled = rw c.unwrap.ensures at c.blank_lacking.ensures in
+    let wrote = filled.1 in
     let many : c.cells-cells.result ≡ size s = c.cells-cells.ensures.value ∙ ap (λ t. size (model t)) c.survey.ensures in
     let long : length c.blank_lacking.new.pattern ≡ c.in_ok-pattern.pattern.len = wrote.long ∙ c.deref_mut.ensures.len in
     with_items_is c.in_ok-pattern.pattern c.blank_lacking.new.pattern long

@@ -1,14 +1,13 @@
 -- Each witness that may change the cell is looked for again.
-use Rattle.std.proofs.Common.{◌≡◌, ◌+◌, ◌<◌, false, Some, length, map, get_or, set, sym, ◌∙◌, ap, subst, arith}
+use Rattle.std.proofs.Common.{◌≡◌, ◌<◌, Some, length, get_or, set, sym, ◌∙◌, ap, arith}
 use Rattle.std.proofs.lemmas.List.{set-get_or, with_items_is, length-set}
 use Rattle.survey.specs.Model.{model, size}
-use Rattle.survey.specs.Page.{Pattern, Witness, Protected, hidden, need}
-use Rattle.search.specs.Lacking.{cells_lacking, lacking_cells, unknown}
-use Rattle.search.specs.Trials.{Tried, Tries}
-use Rattle.search.specs.declared.lacking.Lacking.{Lacking}
+use Rattle.survey.specs.Page.{need}
+use Rattle.search.specs.Lacking.{cells_lacking, unknown}
+use Rattle.search.specs.Trials.{Tried}
 use Rattle.search.proofs.Listing.{cell_at, listed_at, listed_long, listed_inside, listed_lacks, served_all, looked_listed}
 use Rattle.search.proofs.Patterns.{without_witness}
-use Rattle.search.proofs.Printing.{Printing, put_back, blank_besides, printing_undone, printing_found, printing_skip}
+use Rattle.search.proofs.Printing.{put_back, blank_besides, printing_undone, printing_found, printing_skip}
 use Rattle.search.proofs.trials.Trial.print_again.Goals as goal
 use Rattle.search.proofs.trials.Trial.print_again.Goals.{In_default, After-look, then-may_change+in-Some, else-may_change}
 
