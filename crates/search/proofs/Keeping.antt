@@ -1,11 +1,12 @@
 -- A witness that is kept, in other patterns. Assumes nothing.
-use Rattle.std.proofs.Common.{◌≡◌, ℕ, ◌+◌, ◌*◌, ◌/◌, ◌%◌, ◌<◌, true, false, List, get_or, set, sym, ◌∙◌, subst, inl, inr}
-use Rattle.std.proofs.lemmas.Bool.{cases_eq}
+use Rattle.std.proofs.Common.{◌≡◌, ℕ, ◌+◌, ◌*◌, ◌/◌, ◌%◌, ◌<◌, true, false, Option, Some, None, MatchOption, get_or, set, refl, sym, ◌∙◌, subst, inl, inr}
+use Rattle.std.proofs.lemmas.Bool.{both_ways, cases_eq}
 use Rattle.std.proofs.lemmas.List.{get_or-set_other}
 use Rattle.std.proofs.lemmas.Nat.{div-add-mod', div_below, mod_below}
 use Rattle.std.proofs.lemmas.Option.{IfSome_then}
+use Rattle.std.specs.Option.{is_some}
 use Rattle.survey.specs.Model.{size}
-use Rattle.survey.specs.Page.{Survey, Pattern, hidden, true_sum}
+use Rattle.survey.specs.Page.{Survey, Pattern, Witness, hidden, true_sum}
 use Rattle.survey.proofs.Witnesses.{witness_in, still_printed}
 use Rattle.search.specs.Lacking.{Kept, Known}
 use Rattle.search.specs.Moves.{bit_of}
@@ -17,6 +18,25 @@ kept_in : (s : Survey) (h g : Pattern) (c : ℕ) (moves : Moves) (kept : Kept s 
     ((d : ℕ) → hidden g d ≡ false → kept.witness.sums d ≡ true_sum s d) → Kept s g c moves
 unfolding witness_in
 kept_in s h g c moves kept as_is = record { witness = witness_in s h g c kept.witness as_is; still = kept.still }
+
+-- what a look at a cell answers
+abbrev pub Looked : Survey → Pattern → ℕ → Option Moves → Type 0
+Looked s h c o = MatchOption o (Witness s h c → ⊥) (λ m. Kept s h c m)
+
+-- what it answers is known of the cell
+pub looked_known : (s : Survey) (h : Pattern) (c : ℕ) (o : Option Moves) → Looked s h c o → Known s h (record { cell = c; moves = o })
+looked_known s h c None none = tt
+looked_known s h c (Some m) kept = kept
+
+-- where it answers with something there is a witness
+pub looked_some : (s : Survey) (h : Pattern) (c : ℕ) (o : Option Moves) → Looked s h c o → is_some o ≡ true → Witness s h c
+looked_some s h c None none some = absurd (both_ways false refl some)
+looked_some s h c (Some m) kept some = kept.witness
+
+-- and else none
+pub looked_none : (s : Survey) (h : Pattern) (c : ℕ) (o : Option Moves) → Looked s h c o → is_some o ≡ false → Witness s h c → ⊥
+looked_none s h c None none empty = none
+looked_none s h c (Some m) kept empty = absurd (both_ways true empty refl)
 
 -- hiding more keeps what is known
 pub known_more : (s : Survey) (h g : Pattern) → ((d : ℕ) → hidden h d ≡ true → hidden g d ≡ true) → (l : Lacking) → Known s h l → Known s g l

@@ -1,17 +1,18 @@
 -- The cells that lack something, listed. Assumes nothing.
-use Rattle.std.proofs.Common.{◌≡◌, ℕ, zero, suc, ◌+◌, ◌<◌, Bool, true, false, ltb, List, [], ◌∷◌, map, length, get_or, set, Some, None, Option, sym, refl, ap, ◌∙◌, inl, inr, arith}
+use Rattle.std.proofs.Common.{◌≡◌, ℕ, zero, suc, ◌+◌, ◌<◌, Bool, true, ltb, List, [], ◌∷◌, length, get_or, set, Option, sym, refl, ap, ◌∙◌, inl, inr, arith}
 use Rattle.std.proofs.Math.Seq.{map-set_same}
-use Rattle.std.proofs.lemmas.Bool.{both_ways, cases_eq, cases_lt, cases_Bool, lt-ltb, ltb-true}
+use Rattle.std.proofs.lemmas.Bool.{cases_eq, cases_lt, cases_Bool, lt-ltb, ltb-true}
 use Rattle.std.proofs.lemmas.List.{length-map, get_or-map, get_or_default}
 use Rattle.std.proofs.lemmas.List.Elements.{All-filter, All-set, filter_passes}
 use Rattle.std.proofs.lemmas.List.FromFn.{length-range_with_len, get_or-range_with_len}
 use Rattle.std.proofs.lemmas.List.Kept.{AllPairs-filter}
 use Rattle.std.specs.List.{All, AllPairs, Contains, filter, range_with_len}
-use Rattle.std.specs.Option.{is_some}
 use Rattle.survey.specs.Model.{size}
-use Rattle.survey.specs.Page.{Survey, Pattern, need, Witness, Protected}
-use Rattle.search.specs.Lacking.{lacking_cells, unknown, Kept, Known}
-use Rattle.search.specs.Trials.{FirstOpen}
+use Rattle.survey.specs.Page.{Survey, Pattern, hidden, need, Witness, Protected}
+use Rattle.survey.specs.Promise.{all_hidden}
+use Rattle.survey.proofs.Witnesses.{witness_more}
+use Rattle.search.specs.Lacking.{cells_lacking, lacking_cells, unknown, Known}
+use Rattle.search.specs.Search.{Refuses}
 use Rattle.search.specs.declared.lacking.Lacking.{Lacking}
 use Rattle.search.specs.declared.moves.Moves.{Moves}
 
@@ -84,28 +85,33 @@ module _ (s : Survey) where
     unfolding Protected
     served_all each c inside lacking = let (i, below, is) = lacking_place c inside lacking in rw (← is) (each i below)
 
-    -- the next has none: it is the first that is open
-    pub served_open : (n : ℕ) → n < length (lacking_cells s) → Served n → (Witness s h (get_or (lacking_cells s) n 0) → ⊥) → FirstOpen s h (get_or (lacking_cells s) n 0)
-    served_open n below each none = record {
-      inside = lacking_inside n below;
-      lacking = lacking_lacks n below;
-      none = none;
-      first = λ d before lacking.
-          let (i, within, is) = lacking_place d (omega (arith, lacking_inside n below)) lacking in
-          elim (cases_lt i n) [
-            | inl earlier ↦ rw (← is) (each i earlier)
-            | inr later ↦ elim (cases_eq i n) [
-              | inl same ↦ absurd (omega (arith, ap (λ m. get_or (lacking_cells s) m 0) same))
-              | inr other ↦ absurd (omega (arith, lacking_rising n i (omega arith) within))
-            ]
-          ];
-    }
+    -- hiding more keeps their witnesses
+    pub served_more : (g : Pattern) → ((d : ℕ) → hidden h d ≡ true → hidden g d ≡ true) → (n : ℕ) → Served n → (i : ℕ) → i < n → Witness s g (get_or (lacking_cells s) i 0)
+    served_more g more n each i below = witness_more s h g _ more (each i below)
+
+  -- with all cells blank the next has none: there the search refuses
+  pub served_refuses : (n : ℕ) → n < length (lacking_cells s) → Served (all_hidden (size s)) n → (Witness s (all_hidden (size s)) (get_or (lacking_cells s) n 0) → ⊥) →
+      Refuses s (get_or (lacking_cells s) n 0)
+  served_refuses n below each none = record {
+    inside = lacking_inside n below;
+    lacking = lacking_lacks n below;
+    none = none;
+    first = λ d before lacking.
+        let (i, within, is) = lacking_place d (omega (arith, lacking_inside n below)) lacking in
+        elim (cases_lt i n) [
+          | inl earlier ↦ rw (← is) (each i earlier)
+          | inr later ↦ elim (cases_eq i n) [
+            | inl same ↦ absurd (omega (arith, ap (λ m. get_or (lacking_cells s) m 0) same))
+            | inr other ↦ absurd (omega (arith, lacking_rising n i (omega arith) within))
+          ]
+        ];
+  }
 
 -- the cell at a place of the list
 abbrev pub cell_at : List Lacking → ℕ → ℕ
 cell_at ls i = (get_or ls i (unknown 0)).cell
 
-module _ (s : Survey) (ls : List Lacking) (listed : map (λ (l : Lacking). l.cell) ls ≡ lacking_cells s) where
+module _ (s : Survey) (ls : List Lacking) (listed : cells_lacking ls ≡ lacking_cells s) where
   -- as many as there are
   pub listed_long : length ls ≡ length (lacking_cells s)
   listed_long = sym (length-map ls (λ (l : Lacking). l.cell)) ∙ ap length listed
@@ -122,23 +128,15 @@ module _ (s : Survey) (ls : List Lacking) (listed : map (λ (l : Lacking). l.cel
   pub listed_lacks : (i : ℕ) → i < length ls → 0 < need s (cell_at ls i)
   listed_lacks i below = rw (listed_at i below) (lacking_lacks s i (omega (arith, listed_long)))
 
--- of a cell that is known a witness is known
-pub known_witness : (s : Survey) (h : Pattern) (l : Lacking) → Known s h l → is_some l.moves ≡ true → Witness s h l.cell
-known_witness s h l known some = go l.moves refl some
-  where
-    go : (o : Option Moves) → l.moves ≡ o → is_some o ≡ true → Witness s h l.cell
-    go None is none = absurd (both_ways false refl none)
-    go (Some m) is _ = (rw is at known).witness
+-- a cell of the list is looked at, and what is known of it is kept
+abbrev pub LookedAt : List Lacking → ℕ → Option Moves → List Lacking → Type 0
+LookedAt ls i o ls' = ls' ≡ set ls i (record { cell = cell_at ls i; moves = o })
 
--- a witness is found for the cell at place i, and the list keeps which cells it changes
-abbrev pub Finds : List Lacking → ℕ → Moves → List Lacking → Type 0
-Finds ls i m ls' = ls' ≡ set ls i (record { cell = cell_at ls i; moves = Some m })
-
-module _ (s : Survey) (ls ls' : List Lacking) (i : ℕ) (m : Moves) (found : Finds ls i m ls') where
+module _ (s : Survey) (ls ls' : List Lacking) (i : ℕ) (o : Option Moves) (looked : LookedAt ls i o ls') where
   -- the list is of the same cells
-  pub found_listed : map (λ (l : Lacking). l.cell) ls ≡ lacking_cells s → map (λ (l : Lacking). l.cell) ls' ≡ lacking_cells s
-  found_listed listed = ap (map (λ (l : Lacking). l.cell)) found ∙ map-set_same (λ (l : Lacking). l.cell) ls i _ (unknown 0) refl ∙ listed
+  pub looked_listed : cells_lacking ls ≡ lacking_cells s → cells_lacking ls' ≡ lacking_cells s
+  looked_listed listed = ap cells_lacking looked ∙ map-set_same (λ (l : Lacking). l.cell) ls i _ (unknown 0) refl ∙ listed
 
   -- and still what is known is of witnesses
-  pub found_known : (h : Pattern) → Kept s h (cell_at ls i) m → All (Known s h) ls → All (Known s h) ls'
-  found_known h kept known = rw found (All-set (Known s h) ls i _ kept known)
+  pub looked_known_all : (h : Pattern) → Known s h (record { cell = cell_at ls i; moves = o }) → All (Known s h) ls → All (Known s h) ls'
+  looked_known_all h known all = rw looked (All-set (Known s h) ls i _ known all)

@@ -1,21 +1,15 @@
 -- What goes with a pattern that is found and with a refusal. Assumes nothing.
-use Rattle.std.proofs.Common.{ℕ, ◌-◌, ◌≤◌, false, ◌++◌, length, get_or, drop, refl, ap, ◌∙◌, inl, inr, arith, length-append, length-drop}
+use Rattle.std.proofs.Common.{◌-◌, ◌≤◌, false, ◌++◌, length, get_or, drop, refl, ap, ◌∙◌, inl, inr, arith, length-append, length-drop}
 use Rattle.std.proofs.lemmas.List.{get_or_append_left, get_or-append_right, get_or-drop}
 use Rattle.pattern.proofs.Guard.{guard}
 use Rattle.survey.specs.Lending.{Written}
-use Rattle.survey.specs.Model.{size}
 use Rattle.survey.specs.Page.{Survey, Pattern, Sound, hidden}
-use Rattle.survey.specs.Promise.{Guard, all_hidden}
+use Rattle.survey.specs.Promise.{Guard}
 use Rattle.survey.specs.Promise.Outcome.{cannot}
 use Rattle.survey.specs.declared.refusal.Refusal.{Refusal}
 use Rattle.search.specs.Outcomes.{Found, Stops, Failed}
-use Rattle.search.specs.Search.{Finds, Refuses, Searched, SearchedRight}
-use Rattle.search.specs.Trials.{FirstOpen}
+use Rattle.search.specs.Search.{Finds, Searched, SearchedRight}
 use Rattle.search.proofs.Right.{finds_protected, finds_none_in_vain, searched_right}
-
--- the first cell that is open with all cells blank is where the search refuses
-pub open_refuses : (s : Survey) (c : ℕ) → FirstOpen s (all_hidden (size s)) c → Refuses s c
-open_refuses s c open' = record { inside = open'.inside; lacking = open'.lacking; none = open'.none; first = open'.first }
 
 -- a pattern that the rule gives protects, has no blank in vain, and is safe
 pub found_by_rule : (s : Survey) (g : Pattern) → Sound s → Finds s g → Found s g

@@ -1,18 +1,18 @@
 -- The state of the search while one cell is tried as printed. Assumes nothing.
-use Rattle.std.proofs.Common.{◌≡◌, ℕ, ◌+◌, ◌*◌, ◌/◌, ◌%◌, ◌<◌, ◌≤◌, Bool, true, false, ◌≢◌, List, Some, length, get_or, set, map, refl, sym, ap, ◌∙◌, subst, inl, inr, arith}
+use Rattle.std.proofs.Common.{◌≡◌, ℕ, ◌+◌, ◌*◌, ◌/◌, ◌%◌, ◌<◌, ◌≤◌, Bool, true, false, List, Some, length, get_or, set, ap, ◌∙◌, subst, inl, inr, arith}
 use Rattle.std.specs.List.{All, AllWithin}
 use Rattle.std.proofs.lemmas.Nat.{div_below, mod_below}
 use Rattle.std.proofs.lemmas.List.{get_or-set_other, get_or_default, length-set, set-set, set-get_or}
-use Rattle.std.proofs.lemmas.List.Elements.{AllWithin-more_set, AllWithin-more, AllWithin-none, AllWithin-from_all, All-from_all_within, All-weaker}
-use Rattle.std.proofs.lemmas.Bool.{cases_eq, cases_lt}
+use Rattle.std.proofs.lemmas.List.Elements.{AllWithin-more_set, AllWithin-more, AllWithin-none, AllWithin-from_all}
+use Rattle.std.proofs.lemmas.Bool.{cases_lt}
 use Rattle.survey.specs.Model.{size}
-use Rattle.survey.specs.Page.{Survey, Pattern, hidden, need, Witness, Protected}
+use Rattle.survey.specs.Page.{Survey, Pattern, hidden, need, Witness}
 use Rattle.search.specs.Lacking.{Kept, Known, lacking_cells, unknown}
 use Rattle.search.specs.Moves.{bit_of}
 use Rattle.search.specs.declared.lacking.Lacking.{Lacking}
 use Rattle.search.specs.declared.moves.Moves.{Moves}
 use Rattle.search.proofs.Keeping.{known_more, kept_printing}
-use Rattle.search.proofs.Listing.{Finds, Served, cell_at, served_next}
+use Rattle.search.proofs.Listing.{LookedAt, Served, cell_at, served_next}
 use Rattle.search.proofs.Witnesses.{printed_fewer}
 
 -- a cell of a table of at most forty rows and columns lies in one of forty rows and columns
@@ -58,7 +58,7 @@ module _ (s : Survey) (h : Pattern) (d : ℕ) (ls : List Lacking) (i : ℕ) (so_
 
   module _ (below : i < length ls) (at : cell_at ls i ≡ get_or (lacking_cells s) i 0) where
     -- a witness is found
-    pub printing_found : (ls' : List Lacking) (m : Moves) → Finds ls i m ls' → Kept s (set h d false) (cell_at ls i) m → Printing s h d ls' (i + 1)
+    pub printing_found : (ls' : List Lacking) (m : Moves) → LookedAt ls i (Some m) ls' → Kept s (set h d false) (cell_at ls i) m → Printing s h d ls' (i + 1)
     printing_found ls' m found kept = record {
       done = rw found (AllWithin-more_set ls i _ below (Known s (set h d false)) so_far.done kept);
       rest = λ k z from less.

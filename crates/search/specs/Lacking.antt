@@ -1,8 +1,8 @@
 -- The cells that lack something, listed, and the witnesses that are known of them. Assumes nothing: these are definitions.
 use Rattle.std.specs.Prelude.{◌≡◌, ℕ, ◌+◌, ◌*◌, ◌<◌, false, List, filter, map, None, IfSome, nat_lt, slice_index}
-use Rattle.std.specs.List.{All, range_with_len}
+use Rattle.std.specs.List.{range_with_len}
 use Rattle.survey.specs.Model.{size}
-use Rattle.survey.specs.Page.{Survey, Pattern, hidden, need, true_sum, Witness}
+use Rattle.survey.specs.Page.{Survey, Pattern, need, true_sum, Witness}
 use Rattle.search.specs.Moves.{bit_of}
 use Rattle.search.specs.declared.lacking.Lacking.{Lacking}
 use Rattle.search.specs.declared.moves.Moves.{Moves}
@@ -10,6 +10,10 @@ use Rattle.search.specs.declared.moves.Moves.{Moves}
 -- the cells of the table that lack something, by number
 abbrev pub lacking_cells : Survey → List ℕ
 lacking_cells s = filter (λ c. nat_lt 0 (need s c)) (range_with_len 0 (size s))
+
+-- the cells of a list in which each stands with what is known of it
+abbrev pub cells_lacking : List Lacking → List ℕ
+cells_lacking ls = map (λ (l : Lacking). l.cell) ls
 
 -- a cell of which no witness is known
 abbrev pub unknown : ℕ → Lacking

@@ -24,21 +24,18 @@ pub(crate) fn look(
     ensures room { Roomy (size (model table.now.survey)) scratch.new }
     ensures found { MatchOption result (Witness (model table.now.survey) pattern.now cell → ⊥) (λ m. Kept (model table.now.survey) pattern.now cell m) }
 {
-    // there is memory for all cells
-    let Ok(finding) = scratch.judge(table, pattern, cell) else {
-        unreachable()
-    };
-    match finding {
-        Finding::Shown => {}
-        Finding::Barred(_) => return None,
-        // the cell is blank
-        Finding::Printed => unreachable(),
+    match scratch.judge(table, pattern, cell) {
+        Ok(Finding::Shown) => {
+            let survey = table.survey();
+            Some(moves_of(
+                survey.rows(),
+                survey.columns(),
+                &scratch.sums,
+                &scratch.witness,
+            ))
+        }
+        Ok(Finding::Barred(_)) => None,
+        // the cell is blank, and there is memory for all cells
+        Ok(Finding::Printed) | Err(_) => unreachable!(),
     }
-    let survey = table.survey();
-    Some(moves_of(
-        survey.rows(),
-        survey.columns(),
-        &scratch.sums,
-        &scratch.witness,
-    ))
 }

@@ -7,8 +7,6 @@ pub(crate) struct Moves {
     pub(crate) rows: [u64; 40],
 }
 
-pub(crate) const UNMOVED: Moves = Moves { rows: [0; 40] };
-
 impl Moves {
     // Whether the cell in this row and column is changed.
     pub(crate) fn holds(&self, row: usize, column: usize) -> bool
@@ -27,7 +25,7 @@ fn changed_bit(sums: &[u64], other: &[u64], cell: usize) -> u64
     ensures bit { result < 2 }
     ensures value { bit_of result 0 ≡ differs sums.now other.now cell }
 {
-    if other[cell] == sums[cell] { 0 } else { 1 }
+    u64::from(other[cell] != sums[cell])
 }
 
 // The bits of one row, which starts at this cell.
@@ -52,7 +50,7 @@ pub(crate) fn moves_of(rows: usize, columns: usize, sums: &[u64], other: &[u64])
     requires other_within { rows * columns ≤ length other.now }
     ensures { MovesOf rows columns sums.now other.now result.rows }
 {
-    let mut moves = UNMOVED;
+    let mut moves = Moves { rows: [0; 40] };
     for row in 0..rows {
         moves.rows[row] = row_bits(sums, other, row * columns, columns);
     }

@@ -16,10 +16,6 @@ fn find(heap: Global, table: &Table) -> Result<Vec<bool>, Refusal>
 {
     let order = in_order(heap, table)?;
     let mut trial = Trial::new(heap, table)?;
-    if let Some(cell) = trial.first_open() {
-        return Err(Refusal::Unprotected(cell));
-    }
-    trial.begin();
     let k = trial.blank_enough(&order);
     trial.print_back(&order, k);
     Ok(trial.into_pattern())

@@ -1,11 +1,14 @@
 // What the search tries, step by step: all cells blank, as many blank as it takes, and what can be printed again.
-ghost use Rattle.std.specs.Prelude.{◌≡◌, ℕ, ◌<◌, ◌≤◌, true, false, [], length, take, IfOk, MatchBool, MatchOption, slice_set};
+ghost use Rattle.std.specs.Prelude.{◌≡◌, ℕ, ◌<◌, ◌≤◌, true, false, [], length, take, MatchBool, MatchResult, slice_set};
 ghost use Rattle.survey.specs.Model.{model, size};
 ghost use Rattle.survey.specs.Page.{need, Protected};
 ghost use Rattle.survey.specs.Promise.{all_hidden};
+ghost use Rattle.cut.specs.Scratched.{Roomy};
+ghost use Rattle.search.specs.Lacking.{cells_lacking, lacking_cells};
+ghost use Rattle.search.specs.Outcomes.{Stops};
 ghost use Rattle.search.specs.Ranking.{cells_of};
-ghost use Rattle.search.specs.Search.{InOrder, LeastEnough, PrintedBack, blanked};
-ghost use Rattle.search.specs.Trials.{FirstOpen};
+ghost use Rattle.search.specs.Search.{InOrder, LeastEnough, PrintedBack, Refuses, blanked};
+ghost use Rattle.search.specs.Trials.{Begins};
 
 use crate::lacking::{Lacking, lacking_cells};
 use crate::looking::look;
@@ -13,8 +16,30 @@ use crate::ranking::Ranked;
 use cut::scratch::Scratch;
 use pattern::blanks::blank_lacking;
 use sensitivity::table::Table;
-use std::alloc::{AllocError, Global};
+use std::alloc::Global;
 use std::marker::Model;
+use survey::refusal::Refusal;
+
+// Refuses the first cell that lacks something and is not protected with all cells blank.
+fn first_open(
+    table: &Table,
+    lacking: &[Lacking],
+    pattern: &[bool],
+    scratch: &mut Scratch,
+) -> Result<(), Refusal>
+    requires roomy { Roomy (size (model table.now.survey)) scratch.old }
+    requires listed { cells_lacking lacking.now ≡ lacking_cells (model table.now.survey) }
+    requires blank { pattern.now ≡ all_hidden (size (model table.now.survey)) }
+    ensures room { Roomy (size (model table.now.survey)) scratch.new }
+    ensures found { MatchResult result (λ _. Protected (model table.now.survey) (all_hidden (size (model table.now.survey)))) (λ e. (c : ℕ) × (e ≡ Refusal.Unprotected c) × Refuses (model table.now.survey) c) }
+{
+    for lack in lacking {
+        if look(table, pattern, lack.cell, scratch).is_none() {
+            return Err(Refusal::Unprotected(lack.cell));
+        }
+    }
+    Ok(())
+}
 
 // A pattern that is tried on a table, and what is known of the cells that lack something.
 #[derive(Drop)]
@@ -37,14 +62,17 @@ impl<'a> Model for Trial<'a> {
 }
 
 impl<'a> Trial<'a> {
-    // All cells blank, and nothing known.
-    pub(crate) fn new(heap: Global, table: &'a Table) -> Result<Trial<'a>, AllocError>
-        ensures { IfOk result (λ t. (t.survey ≡ model table.now.survey) × (t.pattern ≡ all_hidden (size (model table.now.survey)))) }
+    // The cells that lack something blank, and no other; or the refusal, where all cells blank do not protect.
+    pub(crate) fn new(heap: Global, table: &'a Table) -> Result<Trial<'a>, Refusal>
+        ensures { MatchResult result (λ t. Begins (model table.now.survey) t) (λ e. Stops (model table.now.survey) e) }
     {
         let cells = table.survey().cells();
-        let pattern = vec![in heap; true; cells]?;
         let lacking = lacking_cells(heap, table)?;
-        let scratch = Scratch::new(heap, cells)?;
+        let mut scratch = Scratch::new(heap, cells)?;
+        let mut pattern = vec![in heap; true; cells]?;
+        first_open(table, &lacking, &pattern, &mut scratch)?;
+        // the pattern has an entry for each cell
+        blank_lacking(table, &mut pattern).unwrap();
         Ok(Trial {
             table,
             pattern,
@@ -53,10 +81,14 @@ impl<'a> Trial<'a> {
         })
     }
 
-    // The first cell that lacks something and is not protected. One of which a witness is known is not looked at.
-    pub(crate) fn first_open(&mut self) -> Option<usize>
-        ensures same { self.new ≡ self.old }
-        ensures found { MatchOption result (Protected self.old.survey self.old.pattern) (λ c. FirstOpen self.old.survey self.old.pattern c) }
+    // Makes cells blank in their order until the pattern protects, and says how many. Blanks only help, so a cell that is
+    // protected stays so: the search goes on from the first cell that is not.
+    pub(crate) fn blank_enough(&mut self, order: &[Ranked]) -> usize
+        requires ordered { InOrder self.old.survey (cells_of order.now) }
+        requires begins { Begins self.old.survey self.old }
+        ensures same { self.new.survey ≡ self.old.survey }
+        ensures enough { LeastEnough self.old.survey (cells_of order.now) result }
+        ensures blanks { self.new.pattern ≡ blanked self.old.survey (take result (cells_of order.now)) }
     {
         let Trial {
             table,
@@ -64,59 +96,16 @@ impl<'a> Trial<'a> {
             lacking,
             scratch,
         } = self;
-        for lack in lacking.iter_mut() {
-            if lack.moves.is_none() {
-                let Some(moves) = look(table, pattern, lack.cell, scratch) else {
-                    return Some(lack.cell);
-                };
-                lack.moves = Some(moves);
-            }
-        }
-        None
-    }
-
-    // The cells that lack something blank, and no other; what is known of them is of no use any more.
-    pub(crate) fn begin(&mut self)
-        ensures same { self.new.survey ≡ self.old.survey }
-        ensures blanks { self.new.pattern ≡ blanked self.old.survey [] }
-    {
-        let Trial {
-            table,
-            pattern,
-            lacking,
-            ..
-        } = self;
-        let Ok(()) = blank_lacking(table, pattern) else {
-            unreachable()
-        };
-        for lack in lacking.iter_mut() {
-            lack.moves = None;
-        }
-    }
-
-    // One cell more is blank.
-    fn blank(&mut self, cell: usize)
-        requires { cell < size self.old.survey }
-        ensures same { self.new.survey ≡ self.old.survey }
-        ensures blanks { self.new.pattern ≡ slice_set self.old.pattern cell true }
-    {
-        self.pattern[cell] = true;
-    }
-
-    // Makes cells blank in their order until the pattern protects, and says how many. Blanks only help, so a cell that is
-    // protected stays so.
-    pub(crate) fn blank_enough(&mut self, order: &[Ranked]) -> usize
-        requires ordered { InOrder self.old.survey (cells_of order.now) }
-        requires first { self.old.pattern ≡ blanked self.old.survey [] }
-        requires can { Protected self.old.survey (all_hidden (size self.old.survey)) }
-        ensures same { self.new.survey ≡ self.old.survey }
-        ensures enough { LeastEnough self.old.survey (cells_of order.now) result }
-        ensures blanks { self.new.pattern ≡ blanked self.old.survey (take result (cells_of order.now)) }
-    {
         let mut k = 0;
-        while self.first_open().is_some() {
-            self.blank(order[k].cell);
-            k += 1;
+        for lack in lacking.iter_mut() {
+            lack.moves = 'blanks: loop {
+                let moves = look(table, pattern, lack.cell, scratch);
+                if moves.is_some() {
+                    break moves;
+                }
+                pattern[order[k].cell] = true;
+                k += 1;
+            };
         }
         k
     }

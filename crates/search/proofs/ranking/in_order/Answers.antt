@@ -1,5 +1,5 @@
 -- What is sorted is in order.
-use Rattle.std.proofs.Common.{vec_items, sym, ◌∙◌, subst}
+use Rattle.std.proofs.Common.{vec_items, subst}
 use Rattle.std.specs.List.Sorted.{IsPermutation}
 use Rattle.search.proofs.Sorting.{sorted_in_order}
 use Rattle.search.proofs.ranking.in_order.Goals as goal

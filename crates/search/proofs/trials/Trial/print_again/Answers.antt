@@ -1,14 +1,13 @@
 -- Each witness that may change the cell is looked for again.
-use Rattle.std.proofs.Common.{◌≡◌, ◌+◌, ◌<◌, false, length, map, get_or, set, sym, ◌∙◌, ap, subst, arith}
+use Rattle.std.proofs.Common.{◌≡◌, ◌<◌, Some, length, get_or, set, sym, ◌∙◌, ap, arith}
 use Rattle.std.proofs.lemmas.List.{set-get_or, with_items_is, length-set}
 use Rattle.survey.specs.Model.{model, size}
-use Rattle.survey.specs.Page.{Pattern, Witness, Protected, hidden, need}
-use Rattle.search.specs.Lacking.{lacking_cells, unknown}
-use Rattle.search.specs.Trials.{Tried, Tries}
-use Rattle.search.specs.declared.lacking.Lacking.{Lacking}
-use Rattle.search.proofs.Listing.{cell_at, listed_at, listed_long, listed_inside, listed_lacks, served_all, served_open, found_listed}
+use Rattle.survey.specs.Page.{need}
+use Rattle.search.specs.Lacking.{cells_lacking, unknown}
+use Rattle.search.specs.Trials.{Tried}
+use Rattle.search.proofs.Listing.{cell_at, listed_at, listed_long, listed_inside, listed_lacks, served_all, looked_listed}
 use Rattle.search.proofs.Patterns.{without_witness}
-use Rattle.search.proofs.Printing.{Printing, put_back, blank_besides, printing_undone, printing_found, printing_skip}
+use Rattle.search.proofs.Printing.{put_back, blank_besides, printing_undone, printing_found, printing_skip}
 use Rattle.search.proofs.trials.Trial.print_again.Goals as goal
 use Rattle.search.proofs.trials.Trial.print_again.Goals.{In_default, After-look, then-may_change+in-Some, else-may_change}
 
@@ -75,7 +74,7 @@ loop-lack-preserved c =
           let kept = rw (w.deref.ensures.value, so_far.pattern) at w.in-Some.ensures.found in
           record {
             pattern = so_far.pattern;
-            listed = found_listed s ls c.if-may_change.lack-items i w.in-Some.moves w.lack-items-is so_far.listed;
+            listed = looked_listed s ls c.if-may_change.lack-items i (Some w.in-Some.moves) w.lack-items-is so_far.listed;
             roomy = rw w.scratch-is w.look.ensures.room;
             so_far = printing_found s h d ls i so_far.so_far below at c.if-may_change.lack-items w.in-Some.moves w.lack-items-is kept;
           }
@@ -86,7 +85,7 @@ loop-lack-preserved c =
           let inside : d < size s = rw (← c.self.view_is) at c.requires.inside in
           record {
             pattern = so_far.pattern;
-            listed = ap (map (λ (l : Lacking). l.cell)) same ∙ so_far.listed;
+            listed = ap cells_lacking same ∙ so_far.listed;
             roomy = rw w.scratch-is so_far.roomy;
             so_far = rw same (printing_skip s h d ls i so_far.so_far below at unmoved.0 unmoved.1 (rw width at unmoved.2) c.self.inside.table.now.survey.some_columns inside);
           }
