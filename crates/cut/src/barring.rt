@@ -44,7 +44,8 @@ fn is_shut(table: &Table, pattern: &[bool], cut: &Cut) -> bool
     (0..table.survey().cells()).all(|d| keeps(table, pattern, cut, d))
 }
 
-// What may leave by one cell: what it may give, where it lies in a marked row and in no marked column.
+// What may leave by one cell: what it may give, where it lies in a marked row and in no marked column. Nothing ties what is
+// asked for to one another, so that no struct would say more.
 fn way_out(table: &Table, pattern: &[bool], cell: usize, cut: &Cut, d: usize) -> u64
     requires { d < size (model table.now.survey) }
     ensures { result ≡ way_out (model table.now.survey) pattern.now cell cut.now.rows cut.now.columns d }

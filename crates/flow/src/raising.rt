@@ -57,7 +57,7 @@ fn take_ways(raised: &Raised, sums: &[u64], falls: &mut [u64], rises: &mut [u64]
     }
 }
 
-// The whole run, in memory that has just one entry for each cell.
+// The whole run, in memory that has just one entry for each cell; each slice by itself, as it is lent.
 fn run(
     raised: &Raised,
     sums: &mut [u64],

@@ -40,7 +40,8 @@ impl Standing<'_> {
 
 impl Raised<'_> {
     // Carries as much as the way can, up to what is lacking: from the raised cell's column back to its row, a cell falls in
-    // each row on the way, and its neighbour in the column before rises by the same. Says how much that was.
+    // each row on the way, and its neighbour in the column before rises by the same. Says how much that was. What is lent comes
+    // apart from the cell, since it is written here.
     pub(crate) fn carry(
         &self,
         sums: &[u64],

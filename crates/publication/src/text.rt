@@ -81,6 +81,7 @@ impl fmt::Display for Row<'_> {
     ghost output = { λ r. Some (row_line (model r.page.table.now.survey) r.page.pattern.now r.row) };
 
     fn fmt<W: fmt::Write>(&self, f: &mut fmt::Formatter<W>) -> fmt::Result {
+        // by number, which makes the cell's
         let page = self.page;
         let columns = page.table.survey().columns();
         for k in 0..columns {

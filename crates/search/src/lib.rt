@@ -1,3 +1,4 @@
+// The search for a pattern of blanks, and what its outcome is worth.
 #![tactic(auto)]
 
 ghost use Rattle.search.specs.Search.{OneOutcome, SomeOutcome, SearchedRight, SearchedSafe};

@@ -2,6 +2,7 @@
 ghost use Rattle.std.specs.Prelude.{◌≡◌, ℕ, ◌+◌, ◌*◌, ◌<◌, ◌≤◌, length, slice_index};
 ghost use Rattle.search.specs.Moves.{bit_of, differs, MovesOf};
 
+// An array for the largest table: one is kept for each cell that lacks something, and costs no memory of its own.
 #[derive(Clone, Copy)]
 pub(crate) struct Moves {
     pub(crate) rows: [u64; 40],
@@ -28,7 +29,7 @@ fn changed_bit(sums: &[u64], other: &[u64], cell: usize) -> u64
     u64::from(other[cell] != sums[cell])
 }
 
-// The bits of one row, which starts at this cell.
+// The bits of one row, which starts at this cell: from its last column down, so that each bit moves the ones before it up.
 fn row_bits(sums: &[u64], other: &[u64], start: usize, columns: usize) -> u64
     requires few { columns ≤ 40 }
     requires sums_within { start + columns ≤ length sums.now }
@@ -50,9 +51,9 @@ pub(crate) fn moves_of(rows: usize, columns: usize, sums: &[u64], other: &[u64])
     requires other_within { rows * columns ≤ length other.now }
     ensures { MovesOf rows columns sums.now other.now result.rows }
 {
-    let mut moves = Moves { rows: [0; 40] };
-    for row in 0..rows {
-        moves.rows[row] = row_bits(sums, other, row * columns, columns);
+    let mut bits = [0; 40];
+    for (row, bits) in bits[..rows].iter_mut().enumerate() {
+        *bits = row_bits(sums, other, row * columns, columns);
     }
-    moves
+    Moves { rows: bits }
 }

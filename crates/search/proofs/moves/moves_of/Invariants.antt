@@ -4,4 +4,4 @@ use Rattle.search.specs.Moves.{MovesOf}
 use Rattle.search.proofs.moves.moves_of.Given as goal
 
 abbrev pub invariant-loop-row : goal.invariant-loop-row
-invariant-loop-row l = (length l.moves.rows ≡ 40) × MovesOf l.row l.columns l.sums l.other l.moves.rows
+invariant-loop-row l = (length l.bits-items ≡ l.fn.rows) × MovesOf l.row l.columns l.sums l.other l.bits-items
