@@ -9,6 +9,7 @@ ghost use Rattle.survey.specs.declared.refusal.Refusal.TheVariants.{Memory};
 ghost use Rattle.cells.specs.Lines.{cell_line};
 
 use command::parts::survey_part;
+use sensitivity::profile::Profile;
 use sensitivity::table::Table;
 use std::alloc::{AllocError, Global};
 use std::io::Read;
@@ -26,11 +27,12 @@ fn table_of(heap: Global, bytes: &[u8]) -> Result<Table, Refusal>
 fn cell_line(heap: Global, table: &Table, cell: usize) -> Result<String, AllocError>
     ensures { IfOk result (λ text. string_bytes text ≡ cell_line (model table.now.survey) cell) }
 {
-    let profile = table.profile(cell);
-    let workshops = profile.workshops;
-    let sum = profile.sum;
-    let largest = profile.largest;
-    let second = profile.second;
+    let Profile {
+        workshops,
+        sum,
+        largest,
+        second,
+    } = table.profile(cell);
     let lack = table.lack(cell);
     format!(in heap; "{workshops} {sum} {largest} {second} {lack}")
 }

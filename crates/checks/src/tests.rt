@@ -32,10 +32,7 @@ pub(crate) fn bytes_of(
 fn refusal(heap: Global, bytes: &[u8]) -> Option<Refusal>
     ensures { (result ≡ verdict bytes.now) ⊎ (result ≡ Some Memory) }
 {
-    match read(heap, bytes) {
-        Ok(_) => None,
-        Err(e) => Some(e),
-    }
+    read(heap, bytes).err()
 }
 
 // Heads at the edges of what is taken, with no workshop after them.

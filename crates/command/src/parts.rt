@@ -8,9 +8,9 @@ pub fn survey_part(bytes: &[u8]) -> usize
     ensures value { result ≡ survey_end bytes.now }
     ensures bound { result ≤ length bytes.now }
 {
-    if bytes.len() < 5 {
+    let [_, _, _, low, high, ..] = *bytes else {
         return bytes.len();
-    }
-    let end = 5 + 6 * (bytes[3] as usize + 256 * bytes[4] as usize);
+    };
+    let end = 5 + 6 * u16::from_le_bytes([low, high]) as usize;
     end.min(bytes.len())
 }

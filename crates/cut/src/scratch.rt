@@ -10,7 +10,8 @@ use sensitivity::table::Table;
 use std::alloc::{AllocError, Global};
 use survey::refusal::Refusal;
 
-// The survey's sums, what each cell fell and rose, and the witness's sums: one entry for each cell.
+// The survey's sums, what each cell fell and rose, and the witness's sums: one entry for each cell, and a list for each, since
+// they are lent to the flow as slices of their own.
 #[derive(Drop)]
 pub struct Scratch {
     pub sums: Vec<u64>,

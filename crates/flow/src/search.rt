@@ -24,10 +24,7 @@ fn in_round(step: Option<Step>, round: usize) -> bool
     requires { round < 64 }
     ensures { result ≡ nat_eq (round_of step) round }
 {
-    match step {
-        Some(step) => step.round == round,
-        None => false,
-    }
+    step.is_some_and(|step| step.round == round)
 }
 
 impl Raised<'_> {
@@ -108,6 +105,7 @@ pub(crate) fn marks(steps: &[Option<Step>; 40]) -> [bool; 40]
     ensures each { (i : ℕ) → i < 40 → slice_index_or result i false ≡ is_some (slice_index_or steps.now i None) }
 {
     let mut marks = [false; 40];
+    // by number: how far two zipped iterators have come has no name in a proof of the loop
     for (i, mark) in marks.iter_mut().enumerate() {
         *mark = steps[i].is_some();
     }

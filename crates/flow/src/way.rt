@@ -14,10 +14,7 @@ fn parent(steps: &[Option<Step>; 40], i: usize) -> usize
     requires { i < 40 }
     ensures { result ≡ slice_index (parents steps.now) i }
 {
-    match steps[i] {
-        Some(step) => step.from,
-        None => 0,
-    }
+    steps[i].map_or(0, |step| step.from)
 }
 
 impl Standing<'_> {

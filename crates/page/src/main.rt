@@ -16,7 +16,7 @@ const USAGE: Usage = Usage {
     about: "Reads a survey and prints its page.",
 };
 
-// The page of the survey that the bytes say, or the first refusal.
+// The page of the survey that the task's bytes say, or the first refusal.
 fn page_of(heap: Global, task: &Task) -> Result<String, Refusal>
     ensures { Pages task.now.bytes.items task.now.full result }
 {

@@ -80,13 +80,11 @@ impl Page<'_> {
             return Finding::Shown;
         }
         // there is memory for all cells
-        let Ok(finding) = scratch.judge(self.table, self.pattern, cell) else {
-            unreachable()
-        };
-        finding
+        scratch.judge(self.table, self.pattern, cell).unwrap()
     }
 
-    // Judges cell after cell, up to the first that is open: a loop, since each is judged in the same memory.
+    // Judges cell after cell, up to the first that is open: a loop, since a closure would have
+    // to change the memory that each is judged in.
     #[tactic(auto, using(crate::proofs::Auditing::audited))]
     fn first_open(&self, scratch: &mut Scratch) -> Audit
         requires { Roomy (size (model self.now.table.now.survey)) scratch.old }

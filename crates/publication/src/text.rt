@@ -24,7 +24,7 @@ fn sum_of<I: Iterator<Item = usize> + Drop>(table: &Table, cells: I) -> u64
     cells.map(|cell| table.profile(cell).sum).sum()
 }
 
-// Adds up the cells of a row.
+// Adds up the cells of a row: the survey's own sum of it goes through all workshops.
 fn row_sum(table: &Table, row: usize) -> u64
     requires { row < (model table.now.survey).rows }
     ensures { result ≡ row_sum (model table.now.survey).columns (model table.now.survey).cells (model table.now.survey).values row }
@@ -81,7 +81,7 @@ impl fmt::Display for Row<'_> {
     ghost output = { λ r. Some (row_line (model r.page.table.now.survey) r.page.pattern.now r.row) };
 
     fn fmt<W: fmt::Write>(&self, f: &mut fmt::Formatter<W>) -> fmt::Result {
-        // by number, which makes the cell's
+        // the numbers of row and column make the cell's number
         let page = self.page;
         let columns = page.table.survey().columns();
         for k in 0..columns {

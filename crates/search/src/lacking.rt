@@ -23,13 +23,11 @@ impl Lacking {
         requires column_within { column < 40 }
         ensures { result ≡ false → (m : Moves) × (self.now.moves ≡ Some m) × (bit_of (slice_index m.rows row) column ≡ false) }
     {
-        match &self.moves {
-            Some(moves) => moves.holds(row, column),
-            None => true,
-        }
+        self.moves.is_none_or(|moves| moves.holds(row, column))
     }
 }
 
+// The cells that lack something, by number, of each of which nothing is known yet.
 pub(crate) fn lacking_cells(heap: Global, table: &Table) -> Result<Vec<Lacking>, AllocError>
     ensures { IfOk result (λ v. v.items ≡ map unknown (lacking_cells (model table.now.survey))) }
 {

@@ -2,7 +2,7 @@
 ghost use Rattle.std.specs.Prelude.{◌≡◌, ℕ, ◌+◌, ◌*◌, ◌<◌, ◌≤◌, length, slice_index};
 ghost use Rattle.search.specs.Moves.{bit_of, differs, MovesOf};
 
-// An array for the largest table: one is kept for each cell that lacks something, and costs no memory of its own.
+// A bit for each cell, in an array for the largest table: one is kept for each cell that lacks something, and none is allocated.
 #[derive(Clone, Copy)]
 pub(crate) struct Moves {
     pub(crate) rows: [u64; 40],
@@ -29,7 +29,7 @@ fn changed_bit(sums: &[u64], other: &[u64], cell: usize) -> u64
     u64::from(other[cell] != sums[cell])
 }
 
-// The bits of one row, which starts at this cell: from its last column down, so that each bit moves the ones before it up.
+// The bits of one row, which starts at this cell: a loop from its last column down, since each bit moves the ones before it up.
 fn row_bits(sums: &[u64], other: &[u64], start: usize, columns: usize) -> u64
     requires few { columns ≤ 40 }
     requires sums_within { start + columns ≤ length sums.now }
