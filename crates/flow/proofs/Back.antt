@@ -1,13 +1,13 @@
 -- The walk back by the parents, step by step.
-use Rattle.std.proofs.Common.{◌≡◌, ℕ, zero, suc, ◌+◌, ◌-◌, ◌*◌, ◌%◌, ◌^◌, ◌<◌, ◌≤◌, min, true, List, length, get_or, set, Some, is_some, sym, refl, ap, ◌∙◌, subst, arith}
+use Rattle.std.proofs.Common.{◌≡◌, ℕ, zero, suc, ◌+◌, ◌-◌, ◌*◌, ◌%◌, ◌^◌, ◌<◌, ◌≤◌, min, List, length, get_or, set, Some, is_some, sym, refl, ap, ◌∙◌, subst, arith}
 use Rattle.survey.specs.Page.{Survey, Pattern}
-use Rattle.flow.specs.Ways.{spare, parent_row, falling, column_before, rising, room, add_at, fallen, risen, way_left, way_level, carried, next_falls, next_rises}
+use Rattle.flow.specs.Ways.{spare, parent_row, falling, column_before, rising, room, add_at, fallen, risen, way_level, carried, next_falls, next_rises}
 use Rattle.flow.specs.Afoot.{Afoot}
 use Rattle.flow.specs.Searching.{parents, Trail, Searched}
 use Rattle.flow.specs.declared.search.Search.{Search}
 use Rattle.flow.proofs.Moves.{length_add_at}
-use Rattle.flow.proofs.Reach.{OnWay, parent_inside, rising_inside, on_before, way_on}
-use Rattle.flow.proofs.Once.{fallen_here, risen_here, fallen_once, risen_once, carried_fits}
+use Rattle.flow.proofs.Reach.{OnWay, parent_inside, on_before, way_on, carried_fits}
+use Rattle.flow.proofs.Once.{fallen_here, risen_here, fallen_once, risen_once}
 use Rattle.flow.proofs.Runs.{carried_le}
 
 module _ (s : Survey) (h : Pattern) (c : ℕ) (y : ℕ → ℕ) (rp cp : List ℕ) where
@@ -36,7 +36,6 @@ module _ (s : Survey) (h : Pattern) (c : ℕ) (y : ℕ → ℕ) (rp cp : List �
   -- one step back from column k with l rises to go, by row r, to column j with m rises to go
   pub record Steps (l k r m j : ℕ) : Type 0 where
     pub next : Stands m j
-    pub rise_inside : r * s.columns + j < s.rows * s.columns
     pub rise_here : (x : ℕ) (rises : List ℕ) → length rises ≡ s.rows * s.columns →
         get_or rises (r * s.columns + j) 0 + x ≤ get_or (risen s h c y l k x rises) (r * s.columns + j) 0
     pub room_is : room s h c y l k ≡ min (spare s y (r * s.columns + k)) (room s h c y m j)
@@ -47,7 +46,6 @@ module _ (s : Survey) (h : Pattern) (c : ℕ) (y : ℕ → ℕ) (rp cp : List �
   unfolding room fallen risen falling rising
   steps_own n k st = record {
     next = record { on = on_before s h c y n k st.on; trail = st.trail.2 };
-    rise_inside = rising_inside s h c y n k st.on;
     rise_here = λ x rises long. risen_here s h c y x n k rises long st.on;
     room_is = refl;
     fallen_is = λ x falls. refl;
@@ -80,9 +78,9 @@ module _ (s : Survey) (h : Pattern) (c : ℕ) (y : ℕ → ℕ) (rp cp : List �
     last_rise x rises = refl
 
 -- the way that was found: the walk starts at its end
-pub stands_first : (s : Survey) (h : Pattern) (c : ℕ) (y : ℕ → ℕ) (q : Search) (n l : ℕ) → 0 < s.columns → Searched s h c y q → q.level ≡ Some n → l ≡ n →
+pub stands_first : {s : Survey} {h : Pattern} {c : ℕ} {y : ℕ → ℕ} {q : Search} {n l : ℕ} → 0 < s.columns → Searched s h c y q → q.level ≡ Some n → l ≡ n →
     Stands s h c y (parents q.rows) (parents q.columns) l (c % s.columns)
-stands_first s h c y q n l some searched found is = rw is (record {
+stands_first {s} {h} {c} {y} {q} {n} {l} some searched found is = rw is (record {
   on = subst (λ l. OnWay s h c y l (c % s.columns)) (sym (searched.level n found)) (way_on s h c y some (sym searched.found ∙ ap is_some found));
   trail = searched.trail n found;
 })
@@ -95,32 +93,6 @@ module _ (s : Survey) (h : Pattern) (c : ℕ) (y : ℕ → ℕ) (rp cp : List �
     pub row : get_or cp k 0 < s.rows
     pub rest : min (room s h c y l k) most ≡ carried s h c y lacking
 
-  pub measures_first : (lacking l k : ℕ) → Stands s h c y rp cp l (c % s.columns) → l ≡ way_level s h c y → k ≡ c % s.columns → Measures lacking l k lacking
-  unfolding carried
-  measures_first lacking l k st e is = subst (λ i. Measures lacking l i lacking) (sym is) (record {
-    stands = st;
-    column = st.on.inside;
-    row = parent_below s h c y rp cp _ _ st;
-    rest = ap (λ (n : ℕ). min (room s h c y n (c % s.columns)) lacking) e;
-  })
-
-  module _ (lacking l k most : ℕ) (so_far : Measures lacking l k most) where
-    pub measures_next : (r d x most' j m : ℕ) → 0 < l → r ≡ get_or cp k 0 → d ≡ r * s.columns + k → x ≡ spare s y d → most' ≡ min most x →
-        j ≡ get_or rp r 0 → m ≡ l - 1 → Measures lacking m j most'
-    measures_next r d x most' j m p from at is least back less =
-        let step = steps s h c y rp cp l k p so_far.stands in
-        rw (less, back, from) (record {
-          stands = step.next;
-          column = step.next.on.inside;
-          row = parent_below s h c y rp cp _ _ step.next;
-          rest = omega (arith, so_far.rest, step.room_is, ap (λ (i : ℕ). spare s y i) (at ∙ ap (λ (i : ℕ). i * s.columns + k) from));
-        })
-
-    pub measures_last : (r d x most' : ℕ) → l ≡ 0 → r ≡ get_or cp k 0 → d ≡ r * s.columns + k → x ≡ spare s y d → most' ≡ min most x → most' ≡ carried s h c y lacking
-    measures_last r d x most' e from at is least =
-        let st : Stands s h c y rp cp 0 k = subst (λ i. Stands s h c y rp cp i k) e so_far.stands in
-        omega (arith, so_far.rest, last_room s h c y rp cp k st, ap (λ (i : ℕ). room s h c y i k) e, ap (λ (i : ℕ). spare s y i) (at ∙ ap (λ (i : ℕ). i * s.columns + k) from))
-
   -- the second pass: the rest of the walk makes the whole walk's result
   pub record Carries (x l k : ℕ) (falls₀ rises₀ falls rises : List ℕ) : Type 0 where
     pub stands : Stands s h c y rp cp l k
@@ -131,9 +103,37 @@ module _ (s : Survey) (h : Pattern) (c : ℕ) (y : ℕ → ℕ) (rp cp : List �
     pub falls_rest : fallen s h c y l k x falls ≡ fallen s h c y (way_level s h c y) (c % s.columns) x falls₀
     pub rises_rest : risen s h c y l k x rises ≡ risen s h c y (way_level s h c y) (c % s.columns) x rises₀
 
-  pub carries_first : (x l k : ℕ) (falls rises : List ℕ) → Stands s h c y rp cp l (c % s.columns) → l ≡ way_level s h c y → k ≡ c % s.columns →
-      length falls ≡ s.rows * s.columns → length rises ≡ s.rows * s.columns → Carries x l k falls rises falls rises
-  carries_first x l k falls rises st e is long long' = subst (λ i. Carries x l i falls rises falls rises) (sym is) (record {
+module _ {s : Survey} {h : Pattern} {c : ℕ} {y : ℕ → ℕ} {rp cp : List ℕ} where
+  pub measures_first : {lacking l k : ℕ} → Stands s h c y rp cp l (c % s.columns) → l ≡ way_level s h c y → k ≡ c % s.columns →
+      Measures s h c y rp cp lacking l k lacking
+  unfolding carried
+  measures_first {lacking} {l} st e is = subst (λ i. Measures s h c y rp cp lacking l i lacking) (sym is) (record {
+    stands = st;
+    column = st.on.inside;
+    row = parent_below s h c y rp cp _ _ st;
+    rest = ap (λ (n : ℕ). min (room s h c y n (c % s.columns)) lacking) e;
+  })
+
+  module _ {lacking l k most : ℕ} (so_far : Measures s h c y rp cp lacking l k most) where
+    pub measures_next : {r d x most' j m : ℕ} → 0 < l → r ≡ get_or cp k 0 → d ≡ r * s.columns + k → x ≡ spare s y d → most' ≡ min most x →
+        j ≡ get_or rp r 0 → m ≡ l - 1 → Measures s h c y rp cp lacking m j most'
+    measures_next {r} p from at is least back less =
+        let step = steps s h c y rp cp l k p so_far.stands in
+        rw (less, back, from) (record {
+          stands = step.next;
+          column = step.next.on.inside;
+          row = parent_below s h c y rp cp _ _ step.next;
+          rest = omega (arith, so_far.rest, step.room_is, ap (λ (i : ℕ). spare s y i) (at ∙ ap (λ (i : ℕ). i * s.columns + k) from));
+        })
+
+    pub measures_last : {r d x most' : ℕ} → l ≡ 0 → r ≡ get_or cp k 0 → d ≡ r * s.columns + k → x ≡ spare s y d → most' ≡ min most x → most' ≡ carried s h c y lacking
+    measures_last e from at is least =
+        let st : Stands s h c y rp cp 0 k = subst (λ i. Stands s h c y rp cp i k) e so_far.stands in
+        omega (arith, so_far.rest, last_room s h c y rp cp k st, ap (λ (i : ℕ). room s h c y i k) e, ap (λ (i : ℕ). spare s y i) (at ∙ ap (λ (i : ℕ). i * s.columns + k) from))
+
+  pub carries_first : {x l k : ℕ} {falls rises : List ℕ} → Stands s h c y rp cp l (c % s.columns) → l ≡ way_level s h c y → k ≡ c % s.columns →
+      length falls ≡ s.rows * s.columns → length rises ≡ s.rows * s.columns → Carries s h c y rp cp x l k falls rises falls rises
+  carries_first {x} {l} {falls = falls} {rises = rises} st e is long long' = subst (λ i. Carries s h c y rp cp x l i falls rises falls rises) (sym is) (record {
     stands = st;
     column = st.on.inside;
     row = parent_below s h c y rp cp _ _ st;
@@ -143,8 +143,8 @@ module _ (s : Survey) (h : Pattern) (c : ℕ) (y : ℕ → ℕ) (rp cp : List �
     rises_rest = ap (λ (n : ℕ). risen s h c y n (c % s.columns) x rises) e;
   })
 
-  module _ (x l k : ℕ) (falls₀ rises₀ falls rises : List ℕ) (so_far : Carries x l k falls₀ rises₀ falls rises) where
-    carries_step : 0 < l → Carries x (l - 1) (get_or rp (get_or cp k 0) 0) falls₀ rises₀
+  module _ {x l k : ℕ} {falls₀ rises₀ falls rises : List ℕ} (so_far : Carries s h c y rp cp x l k falls₀ rises₀ falls rises) where
+    carries_step : 0 < l → Carries s h c y rp cp x (l - 1) (get_or rp (get_or cp k 0) 0) falls₀ rises₀
         (add_at falls (get_or cp k 0 * s.columns + k) x) (add_at rises (get_or cp k 0 * s.columns + get_or rp (get_or cp k 0) 0) x)
     carries_step p =
         let step = steps s h c y rp cp l k p so_far.stands in
@@ -162,26 +162,26 @@ module _ (s : Survey) (h : Pattern) (c : ℕ) (y : ℕ → ℕ) (rp cp : List �
     pub column_next : 0 < l → get_or rp (get_or cp k 0) 0 < s.columns
     column_next p = (steps s h c y rp cp l k p so_far.stands).next.on.inside
 
-    pub carries_next : (r d e j m : ℕ) → 0 < l → r ≡ get_or cp k 0 → d ≡ r * s.columns + k → j ≡ get_or rp r 0 → e ≡ r * s.columns + j → m ≡ l - 1 →
-        Carries x m j falls₀ rises₀ (set falls d (get_or falls d 0 + x)) (set rises e (get_or rises e 0 + x))
+    pub carries_next : {r d e j m : ℕ} → 0 < l → r ≡ get_or cp k 0 → d ≡ r * s.columns + k → j ≡ get_or rp r 0 → e ≡ r * s.columns + j → m ≡ l - 1 →
+        Carries s h c y rp cp x m j falls₀ rises₀ (set falls d (get_or falls d 0 + x)) (set rises e (get_or rises e 0 + x))
     unfolding add_at
-    carries_next r d e j m p from at back at' less = rw (less, at, at', back, from) (carries_step p)
+    carries_next p from at back at' less = rw (less, at, at', back, from) (carries_step p)
 
     module _ (e : l ≡ 0) where
       last_stands : Stands s h c y rp cp 0 k
       last_stands = subst (λ i. Stands s h c y rp cp i k) e so_far.stands
 
-      carries_last_falls : (d : ℕ) → d ≡ get_or cp k 0 * s.columns + k →
+      carries_last_falls : {d : ℕ} → d ≡ get_or cp k 0 * s.columns + k →
           set falls d (get_or falls d 0 + x) ≡ fallen s h c y (way_level s h c y) (c % s.columns) x falls₀
       unfolding add_at
-      carries_last_falls d at = ap (λ (i : ℕ). add_at falls i x) at ∙ sym (last_fall s h c y rp cp k last_stands x falls) ∙ ap (λ (i : ℕ). fallen s h c y i k x falls) (sym e) ∙ so_far.falls_rest
+      carries_last_falls at = ap (λ (i : ℕ). add_at falls i x) at ∙ sym (last_fall s h c y rp cp k last_stands x falls) ∙ ap (λ (i : ℕ). fallen s h c y i k x falls) (sym e) ∙ so_far.falls_rest
 
       carries_last_rises : rises ≡ risen s h c y (way_level s h c y) (c % s.columns) x rises₀
       carries_last_rises = sym (last_rise s h c y rp cp k last_stands x rises) ∙ ap (λ (i : ℕ). risen s h c y i k x rises) (sym e) ∙ so_far.rises_rest
 
     -- no cell gets more than it had before the walk, and x
     module _ (on : OnWay s h c y (way_level s h c y) (c % s.columns)) where
-      pub fall_fits : (d : ℕ) → d ≡ get_or cp k 0 * s.columns + k → length falls₀ ≡ s.rows * s.columns → x ≤ room s h c y (way_level s h c y) (c % s.columns) →
+      fall_fits : (d : ℕ) → d ≡ get_or cp k 0 * s.columns + k → length falls₀ ≡ s.rows * s.columns → x ≤ room s h c y (way_level s h c y) (c % s.columns) →
           get_or falls d 0 ≤ get_or falls₀ d 0
       fall_fits d at long fits =
           omega (
@@ -192,7 +192,7 @@ module _ (s : Survey) (h : Pattern) (c : ℕ) (y : ℕ → ℕ) (rp cp : List �
             fallen_once s h c y x (way_level s h c y) (c % s.columns) falls₀ d long on fits,
           )
 
-      pub rise_fits : (d : ℕ) → d ≡ get_or cp k 0 * s.columns + get_or rp (get_or cp k 0) 0 → length rises₀ ≡ s.rows * s.columns → 0 < l →
+      rise_fits : (d : ℕ) → d ≡ get_or cp k 0 * s.columns + get_or rp (get_or cp k 0) 0 → length rises₀ ≡ s.rows * s.columns → 0 < l →
           get_or rises d 0 ≤ get_or rises₀ d 0
       rise_fits d at long p =
           omega (
@@ -204,22 +204,22 @@ module _ (s : Survey) (h : Pattern) (c : ℕ) (y : ℕ → ℕ) (rp cp : List �
           )
 
     -- so nothing comes near the end of its type
-    module _ (lacking : ℕ) (sums : List ℕ) (afoot : Afoot s h sums falls₀ rises₀) (some : 0 < s.columns) (w : way_left s h c y ≡ true)
-        (is : x ≡ carried s h c y lacking) (small : lacking < 2 ^ 62) where
+    module _ {sums : List ℕ} {q : Search} {n lacking : ℕ} (afoot : Afoot s h sums falls₀ rises₀) (some : 0 < s.columns) (searched : Searched s h c y q)
+        (found : q.level ≡ Some n) (is : x ≡ carried s h c y lacking) (small : lacking < 2 ^ 62) where
       on_way : OnWay s h c y (way_level s h c y) (c % s.columns)
-      on_way = way_on s h c y some w
+      on_way = way_on s h c y some (sym searched.found ∙ ap is_some found)
 
-      pub fall_small : (d : ℕ) → d ≡ get_or cp k 0 * s.columns + k → d < s.rows * s.columns → get_or falls d 0 + x < 2 ^ 64
-      fall_small d at inside = omega (
+      pub fall_small : {d : ℕ} → d ≡ get_or cp k 0 * s.columns + k → d < s.rows * s.columns → get_or falls d 0 + x < 2 ^ 64
+      fall_small {d} at inside = omega (
         arith,
-        fall_fits on_way d at afoot.long_falls (omega (arith, carried_fits s h c y lacking some w)),
+        fall_fits on_way d at afoot.long_falls (omega (arith, carried_fits s h c y lacking)),
         afoot.covered d inside,
         afoot.small d inside,
         carried_le s h c y lacking,
       )
 
-      pub rise_small : (d : ℕ) → d ≡ get_or cp k 0 * s.columns + get_or rp (get_or cp k 0) 0 → d < s.rows * s.columns → 0 < l → get_or rises d 0 + x < 2 ^ 64
-      rise_small d at inside p = omega (
+      pub rise_small : {d : ℕ} → d ≡ get_or cp k 0 * s.columns + get_or rp (get_or cp k 0) 0 → d < s.rows * s.columns → 0 < l → get_or rises d 0 + x < 2 ^ 64
+      rise_small {d} at inside p = omega (
         arith,
         rise_fits on_way d at afoot.long_rises p,
         afoot.small d inside,
@@ -228,9 +228,9 @@ module _ (s : Survey) (h : Pattern) (c : ℕ) (y : ℕ → ℕ) (rp cp : List �
 
     -- and the whole walk has done what the next way does
     module _ (lacking : ℕ) (is : x ≡ carried s h c y lacking) (e : l ≡ 0) where
-      pub all_fallen : (d : ℕ) → d ≡ get_or cp k 0 * s.columns + k → set falls d (get_or falls d 0 + x) ≡ next_falls s h c y lacking falls₀
+      pub all_fallen : {d : ℕ} → d ≡ get_or cp k 0 * s.columns + k → set falls d (get_or falls d 0 + x) ≡ next_falls s h c y lacking falls₀
       unfolding next_falls
-      all_fallen d at = carries_last_falls e d at ∙ ap (λ (i : ℕ). fallen s h c y (way_level s h c y) (c % s.columns) i falls₀) is
+      all_fallen at = carries_last_falls e at ∙ ap (λ (i : ℕ). fallen s h c y (way_level s h c y) (c % s.columns) i falls₀) is
 
       pub all_risen : rises ≡ next_rises s h c y lacking rises₀
       unfolding next_rises

@@ -1,14 +1,9 @@
 -- What holds of some number below a bound, and of the least such.
 use Rattle.std.proofs.Common.{◌≡◌, ℕ, zero, suc, ◌<◌, Bool, true, false, Decides, refl, inl, inr, arith}
 use Rattle.std.proofs.lemmas.Bool.Decides.{Decides-below_or}
-use Rattle.std.proofs.lemmas.Bool.{both_ways, or_from, cases_order}
+use Rattle.std.proofs.lemmas.Bool.{both_ways, or_from, cases_order, false_from_ne_true}
 use Rattle.survey.specs.Survey.{pick}
 use Rattle.flow.specs.Ways.{any_below, least}
-
--- what can't be true is false
-pub false_since : (b : Bool) → (b ≡ true → ⊥) → b ≡ false
-false_since true f = absurd (f refl)
-false_since false f = refl
 
 -- any_below tells whether there is such a number
 any_below_decides : (p : ℕ → Bool) (n : ℕ) → Decides (any_below p n) ((k : ℕ) × (k < n) × (p k ≡ true))
@@ -25,7 +20,7 @@ any_below_has p n e = (any_below_decides p n).0 e
 
 -- there is none
 pub any_below_none : (p : ℕ → Bool) (n k : ℕ) → any_below p n ≡ false → k < n → p k ≡ false
-any_below_none p n k e l = false_since (p k) (λ t. both_ways _ e (any_below_from p n k l t))
+any_below_none p n k e l = false_from_ne_true (p k) (λ t. both_ways _ e (any_below_from p n k l t))
 
 -- the least one is below, has it, and none before it has
 pub record Least (p : ℕ → Bool) (n m : ℕ) : Type 0 where

@@ -21,4 +21,3 @@ pub mod Once
 mod Back
 pub mod Bounds
 mod Running
-mod Refusals

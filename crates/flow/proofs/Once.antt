@@ -5,7 +5,7 @@ use Rattle.survey.specs.Page.{Survey, Pattern}
 use Rattle.flow.specs.Ways.{row_reached, parent_row, falling, column_before, rising, room, add_at, fallen, risen, way_left, way_level, carried, next_falls, next_rises}
 use Rattle.flow.proofs.Tables.{at_cell_here, at_cell_other, row_of_place}
 use Rattle.flow.proofs.Moves.{length_add_at}
-use Rattle.flow.proofs.Reach.{OnWay, parent_reached, parent_fresh, on_before, way_on}
+use Rattle.flow.proofs.Reach.{OnWay, parent_reached, parent_fresh, on_before, way_on, carried_fits}
 use Rattle.flow.proofs.Walk.{first_fall, first_rise, row_before, fallen_at, risen_le}
 
 module _ (s : Survey) (h : Pattern) (c : ℕ) (y : ℕ → ℕ) where
@@ -101,16 +101,11 @@ module _ (s : Survey) (h : Pattern) (c : ℕ) (y : ℕ → ℕ) where
     ]
 
   module _ (l : ℕ) (some : 0 < s.columns) (w : way_left s h c y ≡ true) where
-    -- what the next way carries is no more than it can
-    pub carried_fits : carried s h c y l ≤ room s h c y (way_level s h c y) (c % s.columns)
-    unfolding carried
-    carried_fits = omega arith
-
     -- the next way lets each cell fall by what it carries at most
     pub next_falls_le : (falls : List ℕ) (d : ℕ) → length falls ≡ s.rows * s.columns →
         get_or (next_falls s h c y l falls) d 0 ≤ get_or falls d 0 + carried s h c y l
     unfolding next_falls
-    next_falls_le falls d long = fallen_once (carried s h c y l) (way_level s h c y) (c % s.columns) falls d long (way_on s h c y some w) carried_fits
+    next_falls_le falls d long = fallen_once (carried s h c y l) (way_level s h c y) (c % s.columns) falls d long (way_on s h c y some w) (carried_fits s h c y l)
 
     -- and rise
     pub next_rises_le : (rises : List ℕ) (d : ℕ) → length rises ≡ s.rows * s.columns →

@@ -1,17 +1,16 @@
 -- What holds while the ways of raising a cell are taken one after another.
 use Rattle.std.proofs.Common.{◌≡◌, ℕ, zero, suc, ◌+◌, ◌*◌, ◌/◌, ◌%◌, ◌<◌, ◌≤◌, true, false, List, get_or, replicate, refl, ◌∙◌, inl, inr, arith}
 use Rattle.std.proofs.lemmas.List.{length-replicate}
-use Rattle.std.proofs.lemmas.Bool.{both_ways, cases_Bool}
+use Rattle.std.proofs.lemmas.Bool.{both_ways, cases_Bool, false_from_ne_true}
 use Rattle.survey.specs.Survey.{largest}
 use Rattle.survey.specs.Page.{Survey, Pattern, hidden, span, true_sum, need, Witness}
 use Rattle.survey.proofs.Spans.{span_cong, span_add}
 use Rattle.survey.proofs.Cells.{pick_eqb, largest_le_sum}
-use Rattle.flow.specs.Ways.{takes_part, spare, room, way_left, way_level, standing, raised_sums, carried, next_falls, next_rises}
-use Rattle.flow.proofs.Below.{false_since}
+use Rattle.flow.specs.Ways.{takes_part, spare, way_left, way_level, standing, raised_sums, carried, next_falls, next_rises}
 use Rattle.flow.proofs.Tables.{at_cell, at_cell_here, at_cell_other, row_of_number, column_of_number}
 use Rattle.flow.proofs.Parts.{part_hidden, part_own, part_many}
 use Rattle.flow.proofs.Balance.{Raised}
-use Rattle.flow.proofs.Reach.{way_on}
+use Rattle.flow.proofs.Reach.{way_on, carried_fits}
 use Rattle.flow.proofs.Walk.{Balanced, fallen_still, fallen_at, risen_still, risen_le, whole_walk}
 
 -- cell c is raised by e so far: with that, rows and columns have their sums; cells that take no part stand still, and
@@ -23,7 +22,7 @@ pub record Partial (s : Survey) (h : Pattern) (c e : ℕ) (falls rises : List �
   pub not_below : (d : ℕ) → takes_part s h c d ≡ true → largest d s.cells s.values + get_or falls d 0 ≤ true_sum s d + get_or rises d 0
 
 -- each entry of a list of zeros is 0, and so is what lies past its end
-get_or_zeros : (n i : ℕ) → get_or {A = ℕ} (replicate n 0) i 0 ≡ 0
+pub get_or_zeros : (n i : ℕ) → get_or {A = ℕ} (replicate n 0) i 0 ≡ 0
 get_or_zeros zero i = refl
 get_or_zeros (suc n) zero = refl
 get_or_zeros (suc n) (suc i) = get_or_zeros n i
@@ -51,11 +50,6 @@ module _ (s : Survey) (h : Pattern) (c e : ℕ) (falls rises : List ℕ) (part :
   abbrev now_sums : ℕ → ℕ
   now_sums = standing s falls rises
 
-  -- what the next way carries is no more than it can
-  carried_fits : (l : ℕ) → carried s h c now_sums l ≤ room s h c now_sums (way_level s h c now_sums) (c % s.columns)
-  unfolding carried
-  carried_fits l = omega arith
-
   -- a cell that takes part does not fall below its largest workshop
   next_not_below : (l : ℕ) → way_left s h c now_sums ≡ true → (d : ℕ) → takes_part s h c d ≡ true →
       largest d s.cells s.values + get_or (next_falls s h c now_sums l falls) d 0 ≤ true_sum s d + get_or (next_rises s h c now_sums l rises) d 0
@@ -66,7 +60,7 @@ module _ (s : Survey) (h : Pattern) (c e : ℕ) (falls rises : List ℕ) (part :
       let x = carried s h c now_sums l in
       let up = risen_le s h c now_sums x n (c % s.columns) rises d part.balanced.long_rises on in
       let low = part.not_below d t in
-      elim (fallen_at s h c now_sums x n (c % s.columns) falls d part.balanced.long_falls on (carried_fits l)) [
+      elim (fallen_at s h c now_sums x n (c % s.columns) falls d part.balanced.long_falls on (carried_fits s h c now_sums l)) [
         | inl same ↦ omega arith
         | inr fell ↦ unfold spare standing in omega arith
       ]
@@ -134,13 +128,13 @@ partial_witness s h c falls rises part some inside hid = (
     by_row = raised.by_row;
     by_column = raised.by_column;
     printed = λ d f. raised.still d (λ same. both_ways _ f (rw same hid))
-        (false_since _ (λ t. both_ways _ f (part_hidden s h c d t)));
+        (false_from_ne_true _ (λ t. both_ways _ f (part_hidden s h c d t)));
     higher = raised.higher;
     not_below = λ d off. elim (cases_Bool (takes_part s h c d)) [
       | inl t ↦ raised.not_below d t
       | inr f ↦ omega (arith, raised.still d off f, largest_le_sum d s.cells s.values)
     ];
-    alone = λ d off few. raised.still d off (false_since _ (λ t. omega (arith, part_many s h c d t)));
+    alone = λ d off few. raised.still d off (false_from_ne_true _ (λ t. omega (arith, part_many s h c d t)));
   },
   λ d. refl,
 )

@@ -1,11 +1,10 @@
 -- Which cells take part, and which of them can fall.
 use Rattle.std.proofs.Common.{◌≡◌, ℕ, ◌-◌, ◌<◌, ◌≤◌, true, false, not, eqb, ltb, ◌≢◌, ◌⊎◌, sym, refl, ◌∙◌, inl, inr, arith}
-use Rattle.std.proofs.lemmas.Bool.{both_ways, and_parts, and_from, and_cases, not-true, not_from_false, eqb-false, ne_eqb, ltb-true, ltb-false, lt-ltb, le-ltb, and_left, and_right, cases_Bool, cases_lt}
+use Rattle.std.proofs.lemmas.Bool.{both_ways, and_parts, and_from, and_cases, not-true, not_from_false, eqb-false, ne_eqb, ltb-true, ltb-false, lt-ltb, le-ltb, and_left, and_right, cases_Bool, cases_lt, false_from_ne_true}
 use Rattle.survey.specs.Survey.{pick, largest, many}
 use Rattle.survey.specs.Page.{Survey, Pattern, hidden, true_sum}
 use Rattle.survey.specs.Promise.{may_give}
 use Rattle.flow.specs.Ways.{takes_part, spare, can_fall}
-use Rattle.flow.proofs.Below.{false_since}
 
 module _ (s : Survey) (h : Pattern) (c d : ℕ) where
   -- a cell that takes part is hidden
@@ -30,7 +29,7 @@ module _ (s : Survey) (h : Pattern) (c d : ℕ) where
 
   -- the raised cell takes no part itself
   pub part_own : d ≡ c → takes_part s h c d ≡ false
-  part_own same = false_since _ (λ t. part_other t same)
+  part_own same = false_from_ne_true _ (λ t. part_other t same)
 
   -- another cell that takes no part is printed, or has one workshop or none
   pub no_part : takes_part s h c d ≡ false → d ≢ c → (hidden h d ≡ false) ⊎ (many d s.cells ≤ 1)

@@ -1,10 +1,10 @@
 -- Which rows and columns are reached, from where, and what the way back goes through.
-use Rattle.std.proofs.Common.{◌≡◌, ℕ, zero, suc, ◌+◌, ◌*◌, ◌/◌, ◌%◌, ◌<◌, true, false, ◌&&◌, sym, refl, subst, inl, inr, arith}
-use Rattle.std.proofs.lemmas.Bool.{both_ways, and_parts, and_from, or_cases, or_left, or_right, eqb-true, eq-eqb}
+use Rattle.std.proofs.Common.{◌≡◌, ℕ, zero, suc, ◌+◌, ◌*◌, ◌/◌, ◌%◌, ◌<◌, true, false, ◌&&◌, sym, refl, subst, inl, inr, arith, ◌≤◌}
+use Rattle.std.proofs.lemmas.Bool.{both_ways, and_parts, and_from, or_cases, or_left, or_right, eqb-true, eq-eqb, false_from_ne_true}
 use Rattle.std.proofs.lemmas.Nat.{mul-add-lt, mod_below}
 use Rattle.survey.specs.Page.{Survey, Pattern}
-use Rattle.flow.specs.Ways.{any_below, takes_part, can_fall, spare, next_columns, next_rows, row_reached, column_reached, way_left, way_level, parent_row, parent_column, falling, column_before, rising, room}
-use Rattle.flow.proofs.Below.{any_below_from, any_below_has, any_below_none, false_since, Least, least_is}
+use Rattle.flow.specs.Ways.{any_below, takes_part, can_fall, spare, next_columns, next_rows, row_reached, column_reached, way_left, way_level, parent_row, parent_column, falling, column_before, rising, room, carried}
+use Rattle.flow.proofs.Below.{any_below_from, any_below_has, any_below_none, Least, least_is}
 use Rattle.flow.proofs.Parts.{fall_above}
 
 module _ (s : Survey) (h : Pattern) (c : ℕ) (y : ℕ → ℕ) where
@@ -94,7 +94,7 @@ module _ (s : Survey) (h : Pattern) (c : ℕ) (y : ℕ → ℕ) where
     -- the row that the way comes from was not reached before
     pub parent_fresh : row_reached s h c y n (parent_row s h c y (suc n) k) ≡ false
     unfolding falling
-    parent_fresh = false_since _ (λ t. both_ways _ (on.fresh n refl)
+    parent_fresh = false_from_ne_true _ (λ t. both_ways _ (on.fresh n refl)
         (column_from n (parent_row s h c y (suc n) k) k (parent_inside (suc n) k on) t (falling_falls (suc n) k on)))
 
     -- the column before
@@ -118,7 +118,7 @@ module _ (s : Survey) (h : Pattern) (c : ℕ) (y : ℕ → ℕ) where
     on_before = record {
       inside = before_is.below;
       reached = (and_parts _ _ before_is.has).0;
-      fresh = λ m e. false_since _ (λ t. both_ways _ parent_fresh
+      fresh = λ m e. false_from_ne_true _ (λ t. both_ways _ parent_fresh
           (subst (λ i. row_reached s h c y i (parent_row s h c y (suc n) k) ≡ true) (sym e)
           (row_from m (parent_row s h c y (suc n) k) (column_before s h c y n k) before_is.below t (unfold rising in rising_part))));
     }
@@ -141,3 +141,8 @@ module _ (s : Survey) (h : Pattern) (c : ℕ) (y : ℕ → ℕ) where
   room_some zero k on = falling_spare zero k on
   room_some (suc n) k on =
       omega (arith, falling_spare (suc n) k on, room_some n (column_before s h c y n k) (on_before n k on))
+
+  -- what the next way carries is no more than it can
+  pub carried_fits : (l : ℕ) → carried s h c y l ≤ room s h c y (way_level s h c y) (c % s.columns)
+  unfolding carried
+  carried_fits l = omega arith

@@ -1,11 +1,11 @@
 -- A scan in the middle: the first i numbers are done, and of the next one the first j places.
-use Rattle.std.proofs.Common.{◌≡◌, ℕ, ◌+◌, ◌<◌, ◌≤◌, Bool, true, false, ◌&&◌, eqb, ◌≢◌, ◌⊎◌, List, length, get_or, set, sym, refl, ap, ◌∙◌, inl, inr, arith}
+use Rattle.std.proofs.Common.{◌≡◌, ℕ, ◌+◌, ◌<◌, ◌≤◌, Bool, true, false, ◌&&◌, eqb, ◌≢◌, ◌⊎◌, List, length, get_or, set, sym, ap, ◌∙◌, inl, inr, arith}
 use Rattle.std.proofs.lemmas.List.{length-set, get_or-set_same, get_or-set_other}
-use Rattle.std.proofs.lemmas.Bool.{both_ways, cases_eq, cases_Bool, and_parts, and_from, and_left, and_right, eq-eqb}
+use Rattle.std.proofs.lemmas.Bool.{both_ways, cases_eq, cases_Bool, and_parts, and_from, and_left, and_right, eq-eqb, false_from_ne_true}
 use Rattle.survey.proofs.Cells.{pick_true, pick_false}
 use Rattle.flow.specs.Ways.{any_below}
 use Rattle.flow.specs.Searching.{never, Spread}
-use Rattle.flow.proofs.Below.{any_below_from, any_below_has, false_since, Least, least_one}
+use Rattle.flow.proofs.Below.{any_below_from, any_below_has, Least, least_one}
 
 module _ (test : ℕ → ℕ → Bool) (live : ℕ → Bool) (I J v : ℕ) (rounds₀ parents₀ : List ℕ) where
   -- what was reached stays; what is reached now has its first parent; what is not has none so far
@@ -18,16 +18,6 @@ module _ (test : ℕ → ℕ → Bool) (live : ℕ → Bool) (I J v : ℕ) (roun
         (get_or rounds x 0 ≡ never) ⊎ ((get_or rounds x 0 ≡ v) × Least (λ a. live a && test a x) I (get_or parents x 0))
     pub done : (x a : ℕ) → x < J → get_or rounds x 0 ≡ never → a < i → live a ≡ true → test a x ≡ false
     pub here : (x : ℕ) → x < J → x < j → get_or rounds x 0 ≡ never → live i ≡ true → test i x ≡ false
-
-  pub scan_start : Scan 0 0 rounds₀ parents₀
-  scan_start = record {
-    long = refl;
-    long_parents = refl;
-    kept = λ x _. (refl, refl);
-    reached = λ x _ e. inl e;
-    done = λ x a _ _ l _. absurd (omega arith);
-    here = λ x _ l _ _. absurd (omega arith);
-  }
 
   module _ (i j : ℕ) (rounds parents : List ℕ) (scan : Scan i j rounds parents) where
     -- a number from which no other place is reached is passed
@@ -122,7 +112,7 @@ module _ (test : ℕ → ℕ → Bool) (live : ℕ → Bool) (I J v : ℕ) (roun
     }
       where
         none : (x : ℕ) → x < J → get_or rounds x 0 ≡ never → any_below (λ a. live a && test a x) I ≡ false
-        none x l free = false_since _ (λ any.
+        none x l free = false_from_ne_true _ (λ any.
             let (a, low, both) = any_below_has _ I any in
             let parts = and_parts (live a) _ both in
             both_ways _ (scan.done x a l free (omega arith) parts.0) parts.1)

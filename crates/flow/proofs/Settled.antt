@@ -1,13 +1,13 @@
 -- The reach has stopped growing after as many rounds as there are rows: each round before that adds a row.
 use Rattle.std.proofs.Common.{◌≡◌, ℕ, zero, suc, ◌-◌, ◌*◌, ◌/◌, ◌%◌, ◌<◌, ◌≤◌, Bool, true, false, not, ◌&&◌, ◌⊎◌, sym, refl, subst, inl, inr, arith}
-use Rattle.std.proofs.lemmas.Bool.{both_ways, and_parts, and_from, not-true, not_from_false, cases_Bool, cases_eq, cases_lt}
+use Rattle.std.proofs.lemmas.Bool.{both_ways, and_parts, and_from, not-true, not_from_false, cases_Bool, cases_eq, cases_lt, false_from_ne_true}
 use Rattle.std.proofs.lemmas.Nat.{div_below}
 use Rattle.survey.specs.Survey.{pick}
 use Rattle.survey.specs.Page.{Survey, Pattern, span}
 use Rattle.survey.proofs.Spans.{span_spare, span_term}
 use Rattle.survey.proofs.Cells.{pick_true, pick_false}
 use Rattle.flow.specs.Ways.{any_below, row_reached, column_reached, way_left}
-use Rattle.flow.proofs.Below.{any_below_has, any_below_none, false_since}
+use Rattle.flow.proofs.Below.{any_below_has, any_below_none}
 use Rattle.flow.proofs.Tables.{span_ones}
 use Rattle.flow.proofs.Reach.{own_row, only_own_row, row_kept, row_from, row_new, column_from, way_none, column_has}
 
@@ -71,7 +71,7 @@ module _ (s : Survey) (h : Pattern) (c : ℕ) (y : ℕ → ℕ) where
   ]
 
   -- the raised cell's row stays reached
-  own_stays : (n : ℕ) → row_reached s h c y n (c / s.columns) ≡ true
+  pub own_stays : (n : ℕ) → row_reached s h c y n (c / s.columns) ≡ true
   own_stays zero = own_row s h c y
   own_stays (suc n) = row_kept s h c y n _ (own_stays n)
 
@@ -140,7 +140,7 @@ module _ (s : Survey) (h : Pattern) (c : ℕ) (y : ℕ → ℕ) where
     -- where no way is left the raised cell's column is not among those reached
     pub column_free : way_left s h c y ≡ false → column_reached s h c y s.rows (c % s.columns) ≡ false
     column_free f = subst (λ n. column_reached s h c y n (c % s.columns) ≡ false) (sym last_row)
-        (false_since _ (λ t. both_ways _ (way_none s h c y (s.rows - 1) f (omega (arith, last_row)))
+        (false_from_ne_true _ (λ t. both_ways _ (way_none s h c y (s.rows - 1) f (omega (arith, last_row)))
         (column_settled (s.rows - 1) _ (settled_last (s.rows - 1) last_row) t)))
 
     -- a round that adds a row is not the last

@@ -1,8 +1,8 @@
 -- Where no way is left: what is reached is closed, and lets leave just what the cell is raised by; no closed rows and
 -- columns let less leave, and those that let as little leave have all that is reached among them.
-use Rattle.std.proofs.Common.{◌≡◌, ℕ, zero, suc, ◌+◌, ◌*◌, ◌/◌, ◌%◌, ◌<◌, ◌≤◌, Bool, true, false, not, ◌&&◌, List, get_or, sym, refl, ◌∙◌, inl, inr, arith}
+use Rattle.std.proofs.Common.{◌≡◌, ℕ, zero, suc, ◌+◌, ◌*◌, ◌%◌, ◌<◌, ◌≤◌, Bool, true, false, not, ◌&&◌, List, get_or, sym, refl, ◌∙◌, inl, inr, arith}
 use Rattle.std.proofs.lemmas.List.FromFn.{get_or-map-range_with_len}
-use Rattle.std.proofs.lemmas.Bool.{both_ways, and_parts, cases_eq, cases_Bool, cases_lt}
+use Rattle.std.proofs.lemmas.Bool.{both_ways, and_parts, cases_eq, cases_Bool, cases_lt, false_from_ne_true}
 use Rattle.std.proofs.lemmas.Nat.{div_below, mod_below}
 use Rattle.survey.specs.Survey.{pick, largest, many}
 use Rattle.survey.specs.Page.{Survey, Pattern, true_sum}
@@ -11,12 +11,12 @@ use Rattle.survey.proofs.Spans.{span_add}
 use Rattle.survey.proofs.Cells.{largest_le_sum}
 use Rattle.flow.specs.Closed.{Closed}
 use Rattle.flow.specs.Ways.{marks, takes_part, can_fall, row_reached, column_reached, reached_rows, reached_columns, way_left, standing, raised_sums}
-use Rattle.flow.proofs.Below.{any_below_has, false_since}
+use Rattle.flow.proofs.Below.{any_below_has}
 use Rattle.flow.proofs.Tables.{over_one, side, crossing_even, at_cell, at_cell_other, row_of_number, column_of_number, column_of_place}
 use Rattle.flow.proofs.Parts.{part_hidden, part_many, part_from, may_give_is, fall_part, fall_above, no_fall}
 use Rattle.flow.proofs.Balance.{balance, balance_more, raised_leaves}
-use Rattle.flow.proofs.Reach.{own_row, only_own_row, row_kept, row_from, row_new, column_from, column_has}
-use Rattle.flow.proofs.Settled.{settled, column_free, Settled}
+use Rattle.flow.proofs.Reach.{only_own_row, row_from, row_new, column_from, column_has}
+use Rattle.flow.proofs.Settled.{settled, column_free, Settled, own_stays}
 use Rattle.flow.proofs.Partial.{Partial, partial_raised, standing_sum}
 
 -- a mark tells what it was made from
@@ -35,11 +35,6 @@ module _ (s : Survey) (h : Pattern) (c : ℕ) (y : ℕ → ℕ) where
   unfolding reached_columns
   column_mark k l = get_or_marks _ s.columns k l
 
-  -- the raised cell's row stays reached
-  own_row_kept : (n : ℕ) → row_reached s h c y n (c / s.columns) ≡ true
-  own_row_kept zero = own_row s h c y
-  own_row_kept (suc n) = row_kept s h c y n _ (own_row_kept n)
-
   module _ (some : 0 < s.columns) (inside : c < s.rows * s.columns) (none : way_left s h c y ≡ false) where
     -- a cell that takes part, in a reached column, lies in a reached row
     reached_closed : (r k : ℕ) → r < s.rows → k < s.columns → column_reached s h c y s.rows k ≡ true →
@@ -50,7 +45,7 @@ module _ (s : Survey) (h : Pattern) (c : ℕ) (y : ℕ → ℕ) where
     -- what is reached is closed
     pub stuck_closed : Closed s h c (reached_rows s h c y) (reached_columns s h c y)
     stuck_closed = record {
-      row = row_mark _ (div_below c s.columns s.rows some inside) ∙ own_row_kept s.rows;
+      row = row_mark _ (div_below c s.columns s.rows some inside) ∙ own_stays s h c y s.rows;
       column = free;
       closed = λ r k i j p q hid. elim (cases_lt 1 (many (r * s.columns + k) s.cells)) [
         | inl two ↦ absurd (both_ways _ (sym (row_mark r i) ∙ p) (reached_closed r k i j (sym (column_mark k j) ∙ q)
@@ -100,7 +95,7 @@ module _ (s : Survey) (h : Pattern) (c e : ℕ) (falls rises : List ℕ) (part :
           arith,
           standing_sum s h c e falls rises part some here,
           part.not_below here t,
-          no_fall s h c here now_sums t (false_since _ (λ u. both_ways _ (sym (column_mark s h c now_sums k j) ∙ q)
+          no_fall s h c here now_sums t (false_from_ne_true _ (λ u. both_ways _ (sym (column_mark s h c now_sums k j) ∙ q)
               (column_from s h c now_sums s.rows r k i (sym (row_mark s h c now_sums r i) ∙ p) u))),
         )
 

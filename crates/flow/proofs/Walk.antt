@@ -1,11 +1,10 @@
 -- A walk back along a way: which cells it touches, and that at each moment only the raised cell's row and the column
 -- where the walk stands are off.
 use Rattle.std.proofs.Common.{◌≡◌, ℕ, zero, suc, ◌+◌, ◌*◌, ◌/◌, ◌%◌, ◌<◌, ◌≤◌, false, ◌≢◌, ◌⊎◌, List, length, get_or, refl, ◌∙◌, subst, inl, inr, arith}
-use Rattle.std.proofs.lemmas.Bool.{both_ways, cases_eq}
+use Rattle.std.proofs.lemmas.Bool.{both_ways, cases_eq, false_from_ne_true}
 use Rattle.survey.specs.Page.{Survey, Pattern}
 use Rattle.survey.proofs.Cells.{pick_eqb}
 use Rattle.flow.specs.Ways.{takes_part, spare, row_reached, parent_row, falling, column_before, rising, room, add_at, fallen, risen}
-use Rattle.flow.proofs.Below.{false_since}
 use Rattle.flow.proofs.Tables.{at_cell, at_cell_here, at_cell_other, row_of_place}
 use Rattle.flow.proofs.Parts.{fall_part}
 use Rattle.flow.proofs.Moves.{length_add_at, get_or_add_at, row_total, column_total, row_add_at, column_add_at}
@@ -40,7 +39,7 @@ module _ (s : Survey) (h : Pattern) (c : ℕ) (y : ℕ → ℕ) where
 
   -- a row that is not reached later was not reached before
   pub row_before : (n r : ℕ) → row_reached s h c y (suc n) r ≡ false → row_reached s h c y n r ≡ false
-  row_before n r f = false_since _ (λ t. both_ways _ f (row_kept s h c y n r t))
+  row_before n r f = false_from_ne_true _ (λ t. both_ways _ f (row_kept s h c y n r t))
 
   module _ (x : ℕ) where
     -- the first fall of a walk, at the falling cell

@@ -3,12 +3,9 @@ use Rattle.survey.specs.Model.{size}
 use Rattle.flow.specs.Standing.{survey_of}
 use Rattle.survey.proofs.Cells.{pick_same, pick_other}
 use Rattle.flow.specs.Ways.{raised_sums, standing}
-use Rattle.flow.proofs.Filled.{first_none, first_more}
+use Rattle.flow.proofs.Filled.{first_more}
 use Rattle.flow.proofs.lent.write_witness.Goals as goal
 use Rattle.flow.proofs.lent.write_witness.Goals.{then-d-standing, else-d-standing}
-
-pub loop-d-init : goal.loop-d-init
-loop-d-init c = first_none _ _
 
 pub loop-d-preserved : goal.loop-d-preserved
 unfolding raised_sums
@@ -24,9 +21,5 @@ loop-d-preserved c =
 pub overflow_add-sum : goal.overflow_add-sum
 unfolding standing
 overflow_add-sum c =
-    let d = c.loop-d.d in
-    let inside : d < size (survey_of c.args.standing.now.raised) = omega arith in
-    omega (arith, c.sum.ensures, c.args.standing.now.afoot.small d inside)
-
-pub returns : goal.returns
-returns c = record { long = omega arith; known = λ d l. c.loop-d.invariant d (omega arith) }
+    let inside : c.loop-d.d < size (survey_of c.args.standing.now.raised) = omega arith in
+    omega (arith, c.sum.ensures, c.args.standing.now.afoot.small c.loop-d.d inside)

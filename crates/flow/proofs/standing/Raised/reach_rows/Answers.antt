@@ -1,20 +1,16 @@
-use Rattle.std.proofs.Common.{◌≡◌, length, sym, ap, ◌∙◌, inl, inr, arith}
+use Rattle.std.proofs.Common.{◌≡◌, length, ap, ◌∙◌, inl, inr, arith}
 use Rattle.std.proofs.lemmas.List.{length-set}
 use Rattle.flow.specs.Searching.{rounds, parents}
 use Rattle.flow.proofs.Steps.{round_told, none_told, some_told, rounds_set, parents_set, length-rounds, length-parents}
-use Rattle.flow.proofs.Scanning.{scan_start, scan_end, onward_skip, onward_mark, onward_next, onward_idle, reached_same, reached_now}
+use Rattle.flow.proofs.Scanning.{scan_end, onward_skip, onward_mark, onward_next, onward_idle, reached_same, reached_now}
 use Rattle.flow.proofs.Tests.{rise_told}
 use Rattle.flow.proofs.standing.Raised.reach_rows.Goals as goal
 use Rattle.flow.proofs.standing.Raised.reach_rows.Goals.{then-is_none+then-takes_part, else-is_none, else-is_none-via-then-is_none+else-takes_part, else-is_none-via-else-is_none}
 use Rattle.flow.proofs.standing.Raised.reach_rows.Goals.{then-in_round+else-loop-r-test, else-in_round}
 
-pub loop-k-init : goal.loop-k-init
-loop-k-init c = (scan_start _ _ _ _ _ _ _, sym c.requires.fresh, omega arith)
-
 pub loop-r-preserved : goal.loop-r-preserved
 loop-r-preserved c =
     let s = c.args.self.now.table.now.survey in
-    let few = s.few_rows in
     let rows : c.rows-r-end.result ≡ s.rows = cc in
     let columns : c.columns-k-end.result ≡ s.columns = cc in
     let long = c.loop-r.invariant.2 in
@@ -56,10 +52,7 @@ loop-k-preserved c =
       )
     ]
 
-pub returns : goal.returns
-returns c =
+pub returns-clause-spread : goal.returns-clause-spread
+returns-clause-spread c =
     let columns : c.columns-k-end.result ≡ c.args.self.now.table.now.survey.columns = cc in
-    record {
-      spread = scan_end _ _ _ _ _ _ _ _ _ _ _ c.loop-k.invariant.0 (omega arith);
-      more = c.loop-k.invariant.1;
-    }
+    scan_end _ _ _ _ _ _ _ _ _ _ _ c.loop-k.invariant.0 (omega arith)

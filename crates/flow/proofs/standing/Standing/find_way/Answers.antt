@@ -1,20 +1,13 @@
 use Rattle.std.proofs.Common.{◌≡◌, ℕ, ◌/◌, ◌%◌, length, replicate, set, None, Option, refl, sym, ap, ◌∙◌, inl, inr, arith}
 use Rattle.std.proofs.lemmas.Bool.{both_ways, eq-eqb, eqb-true}
 use Rattle.std.proofs.lemmas.List.{length-set}
-use Rattle.std.proofs.lemmas.Nat.{div_below}
 use Rattle.flow.specs.declared.step.Step.{Step}
 use Rattle.flow.proofs.Tests.{fall_told}
-use Rattle.flow.proofs.Steps.{round_told, none_told, some_told, rounds_set, length-rounds, length-parents}
-use Rattle.flow.proofs.Searches.{lists, reaches_column, round_first, going_start, going_idle, going_next, going_skip, going_mark, going_as, none_yet, round_next, no_way_found, way_found, searched_way, searched_none}
+use Rattle.flow.proofs.Steps.{round_told, none_told, some_told, rounds_set, length-parents}
+use Rattle.flow.proofs.Searches.{lists, reaches_column, round_first, going_idle, going_next, going_skip, going_mark, going_as, none_yet, round_next, no_way_found, way_found, searched_way, searched_none}
 use Rattle.flow.proofs.standing.Standing.find_way.Goals as goal
 use Rattle.flow.proofs.standing.Standing.find_way.Goals.{then-is_none+then-can_fall+else-k-cell, else-is_none, else-is_none-via-then-is_none+else-can_fall, else-is_none-via-else-is_none}
 use Rattle.flow.proofs.standing.Standing.find_way.Goals.{then-in_round+else-loop-k-test, else-in_round}
-
-pub bounds-rows-cell : goal.bounds-rows-cell
-bounds-rows-cell c =
-    let s = c.args.self.now.raised.table.now.survey in
-    let columns : c.columns.result ≡ s.columns = cc in
-    rw columns (omega (arith, div_below c.args.self.now.raised.cell s.columns s.rows s.some_columns c.requires, s.few_rows))
 
 pub search-init : goal.search-init
 search-init c =
@@ -22,20 +15,8 @@ search-init c =
     let columns : c.columns.result ≡ s.columns = cc in
     let cell = c.args.self.now.raised.cell in
     let none = replicate {A = Option Step} 40 None in
-    round_first _ _ _ _ s.some_columns c.requires s.few_rows s.few_columns _
-    (rounds_set none (cell / c.columns.result) _ ∙ ap (λ (i : ℕ). set (replicate {A = ℕ} 40 64) (cell / i) 0) columns)
+    round_first s _ _ _ c.requires _ (rounds_set none (cell / c.columns.result) _ ∙ ap (λ (i : ℕ). set (replicate {A = ℕ} 40 64) (cell / i) 0) columns)
     (sym (length-parents (set none (cell / c.columns.result) _)) ∙ length-set none (cell / c.columns.result) _) refl refl
-
-pub loop-r-init : goal.loop-r-init
-loop-r-init c =
-    let s = c.args.self.now.raised.table.now.survey in (
-      going_start _ _ _ _ s.some_columns c.requires s.few_rows s.few_columns _ _ c.search.invariant,
-      omega (arith, length-rounds c.search.rows, c.search.invariant.rows.long),
-      omega (arith, length-rounds c.search.columns, c.search.invariant.columns.long),
-    )
-
-pub loop-k-init : goal.loop-k-init
-loop-k-init c = ((λ q₀ round going. going), c.loop-r.invariant.1, c.loop-r.invariant.2)
 
 pub loop-k-preserved : goal.loop-k-preserved
 loop-k-preserved c =
@@ -46,61 +27,55 @@ loop-k-preserved c =
       | then-is_none+then-can_fall+else-k-cell w ↦
           let target : w.columns-then-can_fall.result ≡ s.columns = cc in
           let live = eqb-true _ _ (round_told c.search.rows c.loop-r.r _ (omega arith) _ _ _ c.in_round.ensures c.if-in_round.true) in (
-            (λ q₀ round going. going_as _ _ _ _ _ _ _ _ _ _ (reaches_column c.search.rows c.loop-k.columns _ c.loop-k.k _ w.columns-is)
-                (going_mark _ _ _ _ s.some_columns c.requires s.few_rows s.few_columns _ _ _ _ _ (c.loop-k.invariant.0 q₀ round going) round
-                (omega arith) (omega arith) live
-                (fall_told _ _ _ _ c.loop-r.r c.loop-k.k _ _ _ w.place.ensures.value w.can_fall.ensures w.if-can_fall.true) (none_told c.loop-k.columns c.loop-k.k _ (omega arith) _ c.is_none.ensures w.if-is_none.true)
-                (λ e. w.if-k-cell.false (e ∙ ap (λ (i : ℕ). c.args.self.now.raised.cell % i) (sym target))))),
+            (λ q₀ round going. going_as (going_mark s c.requires (c.loop-k.invariant.0 q₀ round going) round (omega arith) (omega arith) live
+                (fall_told _ _ _ _ c.loop-r.r c.loop-k.k _ _ _ w.place.ensures.value w.can_fall.ensures w.if-can_fall.true)
+                (none_told c.loop-k.columns c.loop-k.k _ (omega arith) _ c.is_none.ensures w.if-is_none.true)
+                (λ e. w.if-k-cell.false (e ∙ ap (λ (i : ℕ). c.args.self.now.raised.cell % i) (sym target))))
+                (reaches_column c.search.rows c.loop-k.columns _ c.loop-k.k _ w.columns-is)),
             c.loop-k.invariant.1,
             ap length w.columns-is ∙ length-set c.loop-k.columns _ _ ∙ c.loop-k.invariant.2,
           )
       | else-is_none w ↦ (
-        (λ q₀ round going. going_as _ _ _ _ _ _ _ _ _ _ (ap (lists c.search.rows) w.columns-is)
-            (going_skip _ _ _ _ s.some_columns c.requires s.few_rows s.few_columns _ _ _ _ _ (c.loop-k.invariant.0 q₀ round going)
+        (λ q₀ round going. going_as (going_skip (c.loop-k.invariant.0 q₀ round going)
             (elim w.else-is_none.branch [
               | else-is_none-via-then-is_none+else-can_fall u ↦ inr (fall_told _ _ _ _ c.loop-r.r c.loop-k.k _ _ _ u.place.ensures.value u.can_fall.ensures u.if-can_fall.false)
               | else-is_none-via-else-is_none u ↦ inl (some_told c.loop-k.columns c.loop-k.k _ (omega arith) _ c.is_none.ensures u.if-is_none.false)
-            ]))),
+            ])) (ap (lists c.search.rows) w.columns-is)),
         c.loop-k.invariant.1,
         ap length w.columns-is ∙ c.loop-k.invariant.2,
       )
     ]
 
 pub loop-r-preserved : goal.loop-r-preserved
-loop-r-preserved c =
-    let s = c.args.self.now.raised.table.now.survey in
-    elim c.if-in_round.branch [
-      | then-in_round+else-loop-k-test w ↦
-          let columns : w.columns-k-end.result ≡ s.columns = cc in (
-            going_as _ _ _ _ _ _ _ _ _ _ (ap (lists c.search.rows) w.columns-is)
-                (going_next _ _ _ _ s.some_columns c.requires s.few_rows s.few_columns _ _ _ _ _ (w.loop-k.invariant.0 _ c.search.invariant c.loop-r.invariant.0) (omega (arith, w.loop-k-test.false))),
-            c.loop-r.invariant.1,
-            ap length w.columns-is ∙ w.loop-k.invariant.2,
-          )
-      | else-in_round w ↦ (
-        going_as _ _ _ _ _ _ _ _ _ _ (ap (lists c.search.rows) w.columns-is)
-            (going_idle _ _ _ _ s.some_columns c.requires s.few_rows s.few_columns _ _ _ _ _ c.loop-r.invariant.0
-            (λ e. both_ways _ (round_told c.search.rows c.loop-r.r _ (omega arith) _ _ _ c.in_round.ensures w.if-in_round.false) (eq-eqb _ _ e))),
+loop-r-preserved c = elim c.if-in_round.branch [
+  | then-in_round+else-loop-k-test w ↦
+      let columns : w.columns-k-end.result ≡ c.args.self.now.raised.table.now.survey.columns = cc in (
+        going_as (going_next (w.loop-k.invariant.0 _ c.search.invariant c.loop-r.invariant.0) (omega (arith, w.loop-k-test.false)))
+            (ap (lists c.search.rows) w.columns-is),
         c.loop-r.invariant.1,
-        ap length w.columns-is ∙ c.loop-r.invariant.2,
+        ap length w.columns-is ∙ w.loop-k.invariant.2,
       )
-    ]
+  | else-in_round w ↦ (
+    going_as (going_idle c.loop-r.invariant.0
+        (λ e. both_ways _ (round_told c.search.rows c.loop-r.r _ (omega arith) _ _ _ c.in_round.ensures w.if-in_round.false) (eq-eqb _ _ e)))
+        (ap (lists c.search.rows) w.columns-is),
+    c.loop-r.invariant.1,
+    ap length w.columns-is ∙ c.loop-r.invariant.2,
+  )
+]
 
-pub reach_rows-requires : goal.reach_rows-requires
-reach_rows-requires c =
+pub reach_rows-requires-clause-fresh : goal.reach_rows-requires-clause-fresh
+reach_rows-requires-clause-fresh c =
     let s = c.args.self.now.raised.table.now.survey in
     let rows : c.rows-r-end.result ≡ s.rows = cc in
-    record {
-      soon = omega (arith, c.search.invariant.below, s.few_rows);
-      fresh = none_yet _ _ _ _ s.some_columns c.requires s.few_rows s.few_columns _ _ _ _ _ c.loop-r.invariant.0 c.search.invariant (omega arith);
-    }
+    none_yet s c.requires c.loop-r.invariant.0 c.search.invariant (omega arith)
 
 pub search-preserved : goal.search-preserved
 search-preserved c =
     let s = c.args.self.now.raised.table.now.survey in
     let rows : c.rows-r-end.result ≡ s.rows = cc in
-    round_next _ _ _ _ s.some_columns c.requires s.few_rows s.few_columns _ _ _ _ _ c.loop-r.invariant.0 c.search.invariant (omega arith) _ _
-    c.reach_rows.ensures.spread (sym c.reach_rows.ensures.more ∙ c.if-not-reach_rows.false)
+    round_next s c.requires c.loop-r.invariant.0 c.search.invariant (omega arith) c.reach_rows.ensures.spread
+    (sym c.reach_rows.ensures.more ∙ c.if-not-reach_rows.false)
 
 pub returns-then-k-cell : goal.returns-then-k-cell
 returns-then-k-cell c =
@@ -109,17 +84,16 @@ returns-then-k-cell c =
     let columns : c.columns-k-end.result ≡ s.columns = cc in
     let target : c.columns-then-can_fall.result ≡ s.columns = cc in
     let live = eqb-true _ _ (round_told c.search.rows c.loop-r.r _ (omega arith) _ _ _ c.in_round.ensures c.if-in_round.true) in
-    let leads = way_found _ _ _ _ s.some_columns c.requires s.few_rows s.few_columns _ _ c.loop-r.r c.loop-k.k _
-    (c.loop-k.invariant.0 _ c.search.invariant c.loop-r.invariant.0) c.search.invariant (omega arith) (omega arith) live
+    searched_way (reaches_column c.search.rows c.loop-k.columns _ c.loop-k.k _ refl)
+    (way_found s c.requires (c.loop-k.invariant.0 _ c.search.invariant c.loop-r.invariant.0) c.search.invariant (omega arith) (omega arith) live
     (fall_told _ _ _ _ c.loop-r.r c.loop-k.k _ _ _ c.place.ensures.value c.can_fall.ensures c.if-can_fall.true)
     (none_told c.loop-k.columns c.loop-k.k _ (omega arith) _ c.is_none.ensures c.if-is_none.true)
-    (c.if-k-cell.true ∙ ap (λ (i : ℕ). c.args.self.now.raised.cell % i) target) in
-    searched_way _ _ _ _ _ _ _ _ (reaches_column c.search.rows c.loop-k.columns _ c.loop-k.k _ refl) leads
+    (c.if-k-cell.true ∙ ap (λ (i : ℕ). c.args.self.now.raised.cell % i) target))
 
 pub returns-then-not-reach_rows : goal.returns-then-not-reach_rows
 returns-then-not-reach_rows c =
     let s = c.args.self.now.raised.table.now.survey in
     let rows : c.rows-r-end.result ≡ s.rows = cc in
-    searched_none _ _ _ _ _ _
-    (no_way_found _ _ _ _ s.some_columns c.requires s.few_rows s.few_columns _ _ _ _ _ c.loop-r.invariant.0 c.search.invariant (omega arith) _ _
-    c.reach_rows.ensures.spread (sym c.reach_rows.ensures.more ∙ c.if-not-reach_rows.true))
+    searched_none
+    (no_way_found s c.requires c.loop-r.invariant.0 c.search.invariant (omega arith) c.reach_rows.ensures.spread
+    (sym c.reach_rows.ensures.more ∙ c.if-not-reach_rows.true))
