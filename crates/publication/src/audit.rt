@@ -80,7 +80,10 @@ impl Page<'_> {
             return Finding::Shown;
         }
         // there is memory for all cells
-        scratch.judge(self.table, self.pattern, cell).unwrap()
+        let Ok(finding) = scratch.judge(self.table, self.pattern, cell) else {
+            unreachable()
+        };
+        finding
     }
 
     // Judges cell after cell, up to the first that is open: a loop, since a closure would have
