@@ -32,7 +32,10 @@ pub(crate) fn bytes_of(
 fn refusal(heap: Global, bytes: &[u8]) -> Option<Refusal>
     ensures { (result ≡ verdict bytes.now) ⊎ (result ≡ Some Memory) }
 {
-    read(heap, bytes).err()
+    match read(heap, bytes) {
+        Ok(_) => None,
+        Err(e) => Some(e),
+    }
 }
 
 // Heads at the edges of what is taken, with no workshop after them.
