@@ -21,9 +21,9 @@ LINES = {
     "1c numbers that stand for a case": r"^\s*(pub(\(crate\))? )?const [A-Z_]+: (u8|u16|u32|u64|usize) ",
     "1d results and options handed on by hand": r"(Err|Some)\([a-z_]+\) => (return )?(Err|Some|Ok)\(|None => \{\}|(Ok|Some)\(_\) => \{\}",
     "1e let .. else": r"^\s*let (Some|Ok)\(.*\) = ",
-    "3 loops that count": r"^\s*('[a-z]+: )?(for [a-z_]+ in \(?[0-9a-z]+\.\.|while |loop )",
+    "3 loops that count": r"^\s*(let \w+ = |[\w.]+ = )?('[a-z]+: )?(for [a-z_]+ in \(?[0-9a-z]+\.\.|while |loop )",
     "4 conversion and printing": r"^impl.* (From|Display)<?.* for |write!\(|writeln!\(|push_str\(|format!\(|from_str\(",
-    "6 arrays of a fixed length": r"(: |= |\()\[[A-Za-z0-9_]+; [0-9A-Z]+\]",
+    "6 arrays of a fixed length": r"(: &?(mut )?|= |\()\[[A-Za-z0-9_<>]+; [0-9A-Z]+\]",
     "7 tables of functions and switches on a step": r"\bfn\(|\bdyn |Box<|match line",
 }
 
