@@ -181,7 +181,7 @@ module _ {s : Survey} {h : Pattern} {c : ℕ} {y : ℕ → ℕ} {rp cp : List �
 
     -- no cell gets more than it had before the walk, and x
     module _ (on : OnWay s h c y (way_level s h c y) (c % s.columns)) where
-      fall_fits : (d : ℕ) → d ≡ get_or cp k 0 * s.columns + k → length falls₀ ≡ s.rows * s.columns → x ≤ room s h c y (way_level s h c y) (c % s.columns) →
+      pub fall_fits : (d : ℕ) → d ≡ get_or cp k 0 * s.columns + k → length falls₀ ≡ s.rows * s.columns → x ≤ room s h c y (way_level s h c y) (c % s.columns) →
           get_or falls d 0 ≤ get_or falls₀ d 0
       fall_fits d at long fits =
           omega (
@@ -192,7 +192,7 @@ module _ {s : Survey} {h : Pattern} {c : ℕ} {y : ℕ → ℕ} {rp cp : List �
             fallen_once s h c y x (way_level s h c y) (c % s.columns) falls₀ d long on fits,
           )
 
-      rise_fits : (d : ℕ) → d ≡ get_or cp k 0 * s.columns + get_or rp (get_or cp k 0) 0 → length rises₀ ≡ s.rows * s.columns → 0 < l →
+      pub rise_fits : (d : ℕ) → d ≡ get_or cp k 0 * s.columns + get_or rp (get_or cp k 0) 0 → length rises₀ ≡ s.rows * s.columns → 0 < l →
           get_or rises d 0 ≤ get_or rises₀ d 0
       rise_fits d at long p =
           omega (

@@ -69,16 +69,19 @@ impl Standing<'_> {
     {
         let survey = self.raised.table.survey();
         let cell = self.raised.cell;
-        let mut rows = [None; 40];
-        let mut columns = [None; 40];
-        rows[cell / survey.columns()] = Some(Step { round: 0, from: 0 });
+        let mut search = Search {
+            level: None,
+            rows: [None; 40],
+            columns: [None; 40],
+        };
+        search.rows[cell / survey.columns()] = Some(Step { round: 0, from: 0 });
         let mut round = 0;
-        let level = 'search: loop {
+        search.level = 'search: loop {
             for r in 0..survey.rows() {
-                if in_round(rows[r], round) {
+                if in_round(search.rows[r], round) {
                     for k in 0..survey.columns() {
-                        if columns[k].is_none() && self.can_fall(self.raised.place(r, k)) {
-                            columns[k] = Some(Step { round, from: r });
+                        if search.columns[k].is_none() && self.can_fall(self.raised.place(r, k)) {
+                            search.columns[k] = Some(Step { round, from: r });
                             if k == cell % survey.columns() {
                                 break 'search Some(round);
                             }
@@ -86,16 +89,15 @@ impl Standing<'_> {
                     }
                 }
             }
-            if !self.raised.reach_rows(round, &columns, &mut rows) {
+            if !self
+                .raised
+                .reach_rows(round, &search.columns, &mut search.rows)
+            {
                 break None;
             }
             round += 1;
         };
-        Search {
-            level,
-            rows,
-            columns,
-        }
+        search
     }
 }
 
