@@ -3,19 +3,34 @@ use Rattle.std.proofs.Common.{◌≡◌, ℕ, ◌+◌, ◌-◌, ◌*◌, ◌/◌
 use Rattle.std.specs.Bool.{MatchBool}
 use Rattle.std.specs.List.{range_with_len, AllWithin, HoldsAt}
 use Rattle.std.proofs.lemmas.List.FromFn.{length-range_with_len, get_or-range_with_len}
-use Rattle.std.proofs.lemmas.Nat.{div-mul-add, mod-mul-add, mul-add-lt, mul-le, div-add-mod', div_below, mod_below}
 use Rattle.std.proofs.lemmas.Bool.{or_parts, leb-true, leb-false, both_ways, cases_Bool, and_left, and_right, and_from, ne_eqb, eq-eqb, not_from_false, not_from_true, lt-ltb, le-ltb, ltb-true}
 use Rattle.survey.specs.Survey.{largest, many}
 use Rattle.survey.specs.Page.{Survey, Pattern, hidden, true_sum, need}
-use Rattle.survey.specs.Model.{model, size}
+use Rattle.survey.specs.Model.{model}
 use Rattle.survey.specs.declared.checked.Survey as checked
 use Rattle.flow.proofs.Bounds.{sum_small}
 use Rattle.survey.specs.Promise.{Bar, may_give, leaves}
 use Rattle.survey.proofs.Cells.{pick_true, pick_false}
-use Rattle.survey.proofs.Spans.{span_cong}
 use Rattle.flow.specs.Closed.{Shut}
-use Rattle.cut.specs.Barring.{keeps, way_out}
-use Rattle.cut.proofs.Ranges.{in_order, at_most, by_rows}
+use Rattle.cut.specs.Barring.{keeps, way_out, row_leaves}
+use Rattle.cut.proofs.Ranges.{in_order, at_most}
+
+-- the numbers below n are gone through in order
+range_at : (n d : ℕ) → d < n → get_or (range_with_len 0 n) d 0 ≡ d
+range_at n d l = omega (arith, get_or-range_with_len 0 n d 0 l)
+
+-- what going through the numbers below n tells: the one holds of all, or the other of one
+abbrev pub Told : ℕ → (ℕ → Type 0) → (ℕ → Type 0) → Bool → Type 0
+Told n all one b = MatchBool b ((i : ℕ) → i < n → all i) ((i : ℕ) × (i < n) × one i)
+
+-- as the numbers are listed
+pub told_by : (n : ℕ) (all one : ℕ → Type 0) (b : Bool) →
+    MatchBool b (AllWithin all (range_with_len 0 n) 0 (length (range_with_len 0 n))) ((i : ℕ) × (i < length (range_with_len 0 n)) × HoldsAt one (range_with_len 0 n) i) →
+    Told n all one b
+told_by n all one true each = λ i l. subst all (range_at n i l) (each i 0 (omega arith) (omega (arith, length-range_with_len 0 n)))
+told_by n all one false (i, l, here) =
+    let inside : i < n = omega (arith, length-range_with_len 0 n) in
+    (i, inside, subst one (range_at n i inside) (here 0))
 
 module _ (s : Survey) (h : Pattern) (c d : ℕ) where
   -- a printed cell gives nothing
@@ -46,27 +61,26 @@ module _ (s : Survey) (h : Pattern) (c d : ℕ) where
   ]
 
 module _ (s : Survey) (h : Pattern) (rs ks : List Bool) where
-  -- where each cell keeps them so the marked columns are shut
-  pub shut_kept : ((d : ℕ) → d < s.rows * s.columns → keeps s h rs ks d ≡ true) → Shut s h rs ks
-  shut_kept all r k p q a b t =
-      let row = ap (λ (i : ℕ). get_or rs i false) (div-mul-add r s.columns k q) ∙ a in
-      let column = ap (λ (i : ℕ). get_or ks i false) (mod-mul-add r s.columns k q) ∙ b in
-      leb-true _ 1 (last_of _ _ _ _ (all (r * s.columns + k) (omega (arith, mul-add-lt r s.columns k s.rows p q))) row column t)
+  -- all cells of a row keep the marked columns shut
+  abbrev pub RowKeeps : ℕ → Type 0
+  RowKeeps r = (k : ℕ) → k < s.columns → keeps s h rs ks r k ≡ true
+
+  -- one of them doesn't
+  abbrev pub RowBreaks : ℕ → Type 0
+  RowBreaks r = (k : ℕ) × (k < s.columns) × (keeps s h rs ks r k ≡ false)
+
+  -- where each row keeps them so the marked columns are shut
+  pub shut_kept : ((r : ℕ) → r < s.rows → RowKeeps r) → Shut s h rs ks
+  shut_kept all r k p q a b t = leb-true _ 1 (last_of _ _ _ _ (all r p k q) a b t)
     where
       last_of : (x y z w : Bool) → (x || (not y || (not z || w))) ≡ true → x ≡ false → y ≡ true → z ≡ true → w ≡ true
       last_of x y z w e a b t = cc
 
-  -- a cell that doesn't is enough
-  pub broken : 0 < s.columns → (d : ℕ) → d < s.rows * s.columns → keeps s h rs ks d ≡ false → Shut s h rs ks → ⊥
-  broken some d inside f shut =
-      let (a, (b, (t, many_left))) = all_of (get_or rs (d / s.columns) false) (get_or ks (d % s.columns) false) (hidden h d) (leb (many d s.cells) 1) f in
-      let place : d / s.columns * s.columns + d % s.columns ≡ d = div-add-mod' d s.columns in
-      omega (
-        arith,
-        shut (d / s.columns) (d % s.columns) (div_below d s.columns s.rows some inside) (mod_below d s.columns some) a b (ap (λ (i : ℕ). hidden h i) place ∙ t),
-        ap (λ (i : ℕ). many i s.cells) place,
-        leb-false _ 1 many_left,
-      )
+  -- a row that doesn't is enough
+  pub broken : (r : ℕ) → r < s.rows → RowBreaks r → Shut s h rs ks → ⊥
+  broken r inside (k, l, f) shut =
+      let (a, (b, (t, many_left))) = all_of (get_or rs r false) (get_or ks k false) (hidden h (r * s.columns + k)) (leb (many (r * s.columns + k) s.cells) 1) f in
+      omega (arith, shut r k inside l a b t, leb-false _ 1 many_left)
     where
       turned : (x : Bool) → not x ≡ false → x ≡ true
       turned true e = refl
@@ -79,45 +93,40 @@ module _ (s : Survey) (h : Pattern) (rs ks : List Bool) where
           let (blank, many_left) = or_parts (not z) w last in
           (row, (turned y column, (turned z blank, many_left)))
 
-  -- the cells are gone through by number
-  range_at : (d : ℕ) → d < size s → get_or (range_with_len 0 (size s)) d 0 ≡ d
-  range_at d l = omega (arith, get_or-range_with_len 0 (size s) d 0 l)
-
-  -- what going through all cells tells
-  pub shut_told : (b : Bool) → 0 < s.columns →
-      MatchBool b (AllWithin (λ d. keeps s h rs ks d ≡ true) (range_with_len 0 (size s)) 0 (length (range_with_len 0 (size s))))
-      ((i : ℕ) × (i < length (range_with_len 0 (size s))) × HoldsAt (λ d. keeps s h rs ks d ≡ false) (range_with_len 0 (size s)) i) →
-      (b ≡ true → Shut s h rs ks) × (Shut s h rs ks → b ≡ true)
-  shut_told true some all = (
-    (λ _. shut_kept (λ d l. subst (λ i. keeps s h rs ks i ≡ true) (range_at d l) (all d 0 (omega arith) (omega (arith, length-range_with_len 0 (size s)))))),
-    λ _. refl,
-  )
-  shut_told false some (i, l, f) =
-      let inside : i < size s = omega (arith, length-range_with_len 0 (size s)) in (
-        (λ e. absurd (both_ways false refl e)),
-        λ shut. absurd (broken some i inside (subst (λ d. keeps s h rs ks d ≡ false) (range_at i inside) (f 0)) shut),
-      )
+  -- what going through all rows tells
+  pub shut_told : (b : Bool) → Told s.rows RowKeeps RowBreaks b → (b ≡ true → Shut s h rs ks) × (Shut s h rs ks → b ≡ true)
+  shut_told true all = (λ _. shut_kept all, λ _. refl)
+  shut_told false (r, inside, breaks) = (λ e. absurd (both_ways false refl e), λ shut. absurd (broken r inside breaks shut))
 
 module _ (t : checked.Survey) (h : Pattern) (c : ℕ) (rs ks : List Bool) where
   -- what leaves by one cell is no large amount
-  way_small : (d : ℕ) → way_out (model t) h c rs ks d ≤ 20000000000000
-  way_small d = elim (cases_Bool (get_or rs (d / t.columns) false && not (get_or ks (d % t.columns) false))) [
-    | inl out ↦ omega (arith, pick_true {A = ℕ} _ (may_give (model t) h c d) 0 out, give_small (model t) h c d, sum_small t d)
-    | inr off ↦ omega (arith, pick_false {A = ℕ} _ (may_give (model t) h c d) 0 off)
+  way_small : (r k : ℕ) → way_out (model t) h c rs ks r k ≤ 20000000000000
+  way_small r k = elim (cases_Bool (get_or rs r false && not (get_or ks k false))) [
+    | inl out ↦ omega (arith, pick_true {A = ℕ} _ (may_give (model t) h c (r * t.columns + k)) 0 out, give_small (model t) h c (r * t.columns + k), sum_small t (r * t.columns + k))
+    | inr off ↦ omega (arith, pick_false {A = ℕ} _ (may_give (model t) h c (r * t.columns + k)) 0 off)
   ]
 
-  -- nor is what leaves by all cells
-  pub ways_fit : sum_by (way_out (model t) h c rs ks) (range_with_len 0 (size (model t))) < 2 ^ 64
-  ways_fit =
-      let few = mul-le t.rows t.columns 40 40 t.few_rows t.few_columns in
-      omega (arith, at_most (way_out (model t) h c rs ks) 20000000000000 (range_with_len 0 (size (model t))) way_small, length-range_with_len 0 (size (model t)), few)
+  -- nor is what leaves by the cells of a row
+  pub row_fits : (r : ℕ) → sum_by (λ k. way_out (model t) h c rs ks r k) (range_with_len 0 t.columns) ≤ 800000000000000
+  row_fits r = omega (arith, at_most (λ k. way_out (model t) h c rs ks r k) 20000000000000 (range_with_len 0 t.columns) (way_small r), length-range_with_len 0 t.columns, t.few_columns)
 
-  -- cell by cell is row by row
-  pub ways_leave : sum_by (way_out (model t) h c rs ks) (range_with_len 0 (size (model t))) ≡ leaves (model t) h c rs ks
+  -- what is added up along a row
+  pub row_sum : (r : ℕ) → sum_by (λ k. way_out (model t) h c rs ks r k) (range_with_len 0 t.columns) ≡ row_leaves (model t) h c rs ks r
+  row_sum r = in_order (λ k. way_out (model t) h c rs ks r k) t.columns
+
+  -- nor is what leaves by all rows
+  pub rows_fit : sum_by (λ r. row_leaves (model t) h c rs ks r) (range_with_len 0 t.rows) < 2 ^ 64
+  rows_fit = omega (
+    arith,
+    at_most (λ r. row_leaves (model t) h c rs ks r) 800000000000000 (range_with_len 0 t.rows) (λ r. omega (arith, row_fits r, row_sum r)),
+    length-range_with_len 0 t.rows,
+    t.few_rows,
+  )
+
+  -- row by row is what leaves
+  pub rows_leave : sum_by (λ r. row_leaves (model t) h c rs ks r) (range_with_len 0 t.rows) ≡ leaves (model t) h c rs ks
   unfolding leaves
-  ways_leave =
-      in_order (way_out (model t) h c rs ks) (size (model t)) ∙ sym (by_rows (way_out (model t) h c rs ks) t.rows t.columns)
-      ∙ span_cong _ _ t.rows (λ r p. span_cong _ _ t.columns (λ k q. rw (div-mul-add r t.columns k q, mod-mul-add r t.columns k q) refl))
+  rows_leave = in_order (λ r. row_leaves (model t) h c rs ks r) t.rows
 
 module _ (s : Survey) (h : Pattern) (c : ℕ) (rs ks : List Bool) where
   -- a bar is shut
