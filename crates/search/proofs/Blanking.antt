@@ -48,14 +48,14 @@ module _ (s : Survey) (cs : List ℕ) (k : ℕ) (h : Pattern) (so_far : Blanking
 
   module _ (too_few : Protected s h → ⊥) where
     -- it doesn't: there is another cell to make blank
-    blanking_room : InOrder s cs → Protected s (all_hidden (size s)) → k < length cs
+    pub blanking_room : InOrder s cs → Protected s (all_hidden (size s)) → k < length cs
     blanking_room ordered can = elim (cases_lt k (length cs)) [
       | inl less ↦ less
       | inr end ↦ absurd (too_few (rw (so_far.blanks, take_all k cs end, blanked_all s cs ordered) can))
     ]
 
     -- which then is blank
-    blanking_more : k < length cs → Blanking s cs (k + 1) (set h (get_or cs k 0) true)
+    pub blanking_more : k < length cs → Blanking s cs (k + 1) (set h (get_or cs k 0) true)
     blanking_more room = record {
       within = omega arith;
       blanks = ap (λ g. set g (get_or cs k 0) true) so_far.blanks ∙ sym (blanked_more s cs k room);

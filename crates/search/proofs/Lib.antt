@@ -10,10 +10,10 @@ mod Existence
 pub mod Sorting
 pub mod Examples
 pub mod Listing
-mod Keeping
+pub mod Keeping
 mod Trying
-mod Blanking
-mod Printing
+pub mod Blanking
+pub mod Printing
 mod Bits
 pub mod Shown
 mod Outcomes

@@ -57,7 +57,7 @@ module _ (s : Survey) where
   lacking_lacks i below = ltb-true 0 _ (filter_passes lacks (range_with_len 0 (size s)) i 0 below)
 
   -- the smaller number stands first
-  lacking_rising : (i j : ℕ) → i < j → j < length (lacking_cells s) → get_or (lacking_cells s) i 0 < get_or (lacking_cells s) j 0
+  pub lacking_rising : (i j : ℕ) → i < j → j < length (lacking_cells s) → get_or (lacking_cells s) i 0 < get_or (lacking_cells s) j 0
   lacking_rising i j less below = AllPairs-filter (λ a b. a < b) lacks (range_with_len 0 (size s)) (range_rising (size s)) i j 0 less below
 
   -- and no other cell of the table lacks something
@@ -65,7 +65,7 @@ module _ (s : Survey) where
   lacking_all c inside lacking = contains_filter lacks (range_with_len 0 (size s)) c (lt-ltb 0 _ lacking) (range_has (size s) c inside)
 
   -- where it stands
-  lacking_place : (c : ℕ) → c < size s → 0 < need s c → (i : ℕ) × (i < length (lacking_cells s)) × (get_or (lacking_cells s) i 0 ≡ c)
+  pub lacking_place : (c : ℕ) → c < size s → 0 < need s c → (i : ℕ) × (i < length (lacking_cells s)) × (get_or (lacking_cells s) i 0 ≡ c)
   lacking_place c inside lacking = let (i, below, is) = lacking_all c inside lacking in (i, below, get_or_default (lacking_cells s) i 0 c below ∙ is)
 
   module _ (h : Pattern) where

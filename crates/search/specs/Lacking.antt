@@ -1,6 +1,6 @@
 -- The cells that lack something, listed, and the witnesses that are known of them. Assumes nothing: these are definitions.
-use Rattle.std.specs.Prelude.{◌≡◌, ℕ, ◌+◌, ◌*◌, ◌<◌, false, List, filter, map, None, IfSome, nat_lt, slice_index}
-use Rattle.std.specs.List.{range_with_len}
+use Rattle.std.specs.Prelude.{◌≡◌, ℕ, ◌+◌, ◌*◌, ◌<◌, true, false, List, filter, map, None, IfSome, is_some, nat_lt, slice_index}
+use Rattle.std.specs.List.{All, range_with_len}
 use Rattle.survey.specs.Model.{size}
 use Rattle.survey.specs.Page.{Survey, Pattern, need, true_sum, Witness}
 use Rattle.search.specs.Moves.{bit_of}
@@ -28,3 +28,7 @@ pub record Kept (s : Survey) (h : Pattern) (c : ℕ) (moves : Moves) : Type 0 wh
 -- what is known of the cell is of a witness that it has
 abbrev pub Known : Survey → Pattern → Lacking → Type 0
 Known s h l = IfSome l.moves (λ m. Kept s h l.cell m)
+
+-- of each of these cells a witness is known
+abbrev pub AllKnown : List Lacking → Type 0
+AllKnown ls = All (λ (l : Lacking). is_some l.moves ≡ true) ls

@@ -10,10 +10,11 @@ use Rattle.search.specs.Lacking.{cells_lacking, lacking_cells, Known}
 use Rattle.search.specs.Search.{blanked}
 use Rattle.search.specs.declared.lacking.Lacking.{Lacking}
 
--- a trial as clauses see it: the survey, and the pattern that is tried
+-- a trial as clauses see it: the survey, the pattern that is tried, and the cells that lack something
 pub record Tried : Type 0 where
   pub survey : Survey
   pub pattern : Pattern
+  pub lacking : List Lacking
 
 -- what holds of a trial: the pattern has an entry for each cell, those that lack something are blank and are listed, what
 -- is known of them is of witnesses with this pattern, and there is memory for judging them

@@ -4,7 +4,7 @@ ghost use Rattle.survey.specs.Model.{model, size};
 ghost use Rattle.survey.specs.Page.{need, Protected};
 ghost use Rattle.survey.specs.Promise.{all_hidden};
 ghost use Rattle.cut.specs.Scratched.{Roomy};
-ghost use Rattle.search.specs.Lacking.{cells_lacking, lacking_cells};
+ghost use Rattle.search.specs.Lacking.{AllKnown, cells_lacking, lacking_cells};
 ghost use Rattle.search.specs.Outcomes.{Stops};
 ghost use Rattle.search.specs.Ranking.{cells_of};
 ghost use Rattle.search.specs.Search.{InOrder, LeastEnough, PrintedBack, Refuses, blanked};
@@ -56,7 +56,7 @@ impl<'a> Model for Trial<'a> {
 
     ghost Value = { Tried };
 
-    ghost view = { λ t. record { survey = model t.table.now.survey; pattern = t.pattern.items } };
+    ghost view = { λ t. record { survey = model t.table.now.survey; pattern = t.pattern.items; lacking = t.lacking.items } };
 
     ghost invariant = { λ t. Tries (model t.table.now.survey) t.pattern.items t.lacking.items t.scratch };
 }
@@ -89,6 +89,7 @@ impl<'a> Trial<'a> {
         ensures same { self.new.survey ≡ self.old.survey }
         ensures enough { LeastEnough self.old.survey (cells_of order.now) result }
         ensures blanks { self.new.pattern ≡ blanked self.old.survey (take result (cells_of order.now)) }
+        ensures known { AllKnown self.new.lacking }
     {
         let Trial {
             table,
@@ -114,7 +115,9 @@ impl<'a> Trial<'a> {
     fn print_again(&mut self, cell: usize) -> bool
         requires inside { cell < size self.old.survey }
         requires enough { need self.old.survey cell ≡ 0 }
+        requires known { AllKnown self.old.lacking }
         ensures same { self.new.survey ≡ self.old.survey }
+        ensures keeps { AllKnown self.new.lacking }
         ensures tried { MatchBool result ((self.new.pattern ≡ slice_set self.old.pattern cell false) × Protected self.old.survey (slice_set self.old.pattern cell false)) ((self.new.pattern ≡ self.old.pattern) × (Protected self.old.survey (slice_set self.old.pattern cell false) → ⊥)) }
     {
         let Trial {
@@ -124,10 +127,11 @@ impl<'a> Trial<'a> {
             scratch,
         } = self;
         let columns = table.survey().columns();
+        let (row, column) = (cell / columns, cell % columns);
         let before = pattern[cell];
         pattern[cell] = false;
         for lack in lacking.iter_mut() {
-            if lack.may_change(cell / columns, cell % columns) {
+            if lack.changes(row, column) {
                 let Some(moves) = look(table, pattern, lack.cell, scratch) else {
                     pattern[cell] = before;
                     return false;
@@ -142,6 +146,7 @@ impl<'a> Trial<'a> {
     pub(crate) fn print_back(&mut self, order: &[Ranked], k: usize)
         requires ordered { InOrder self.old.survey (cells_of order.now) }
         requires within { k ≤ length order.now }
+        requires known { AllKnown self.old.lacking }
         ensures { PrintedBack self.old.survey (cells_of order.now) k self.old.pattern self.new.pattern }
     {
         for ranked in order[..k].iter().rev() {

@@ -1,10 +1,13 @@
 -- A cell has a witness, or another is made blank.
 use Rattle.std.proofs.Common.{◌≡◌, ◌<◌, true, length, refl, sym, ◌∙◌, ap, subst, arith}
 use Rattle.std.proofs.lemmas.List.{length-set}
+use Rattle.std.proofs.lemmas.List.Elements.{AllWithin-more_set}
+use Rattle.std.specs.Option.{is_some}
 use Rattle.survey.specs.Model.{model}
 use Rattle.survey.specs.Page.{Witness}
 use Rattle.search.specs.Ranking.{cells_of}
 use Rattle.search.specs.Trials.{Tried}
+use Rattle.search.specs.declared.lacking.Lacking.{Lacking}
 use Rattle.search.proofs.Blanking.{blanking_all, next, ranked_at}
 use Rattle.search.proofs.Keeping.{looked_known, looked_some}
 use Rattle.search.proofs.Listing.{cell_at, listed_at, listed_long, listed_inside, listed_lacks, served_next, served_more, served_all, looked_listed, looked_known_all}
@@ -71,6 +74,7 @@ loop-lack-preserved c =
         roomy = tries.roomy;
       };
       so_far = c.blanks.invariant.so_far;
+      known = AllWithin-more_set ls i _ below (λ (d : Lacking). is_some d.moves ≡ true) c.loop-lack.invariant.known (sym c.is_some.ensures ∙ c.if-is_some.true);
       served =
           served_next s g i (served_more s h g c.blanks.invariant.more i c.loop-lack.invariant.served)
           (subst (λ d. Witness s g d) (listed_at s ls c.loop-lack.invariant.tries.listed i below) witness);

@@ -1,15 +1,18 @@
 -- Each witness that may change the cell is looked for again.
-use Rattle.std.proofs.Common.{◌≡◌, ◌<◌, Some, length, get_or, set, sym, ◌∙◌, ap, arith}
+use Rattle.std.proofs.Common.{◌≡◌, ◌<◌, Some, length, get_or, set, refl, true, sym, ◌∙◌, ap, arith}
 use Rattle.std.proofs.lemmas.List.{set-get_or, with_items_is, length-set}
+use Rattle.std.proofs.lemmas.List.Elements.{All-set}
+use Rattle.std.specs.Option.{is_some}
 use Rattle.survey.specs.Model.{model, size}
 use Rattle.survey.specs.Page.{need}
 use Rattle.search.specs.Lacking.{cells_lacking, unknown}
 use Rattle.search.specs.Trials.{Tried}
+use Rattle.search.specs.declared.lacking.Lacking.{Lacking}
 use Rattle.search.proofs.Listing.{cell_at, listed_at, listed_long, listed_inside, listed_lacks, served_all, looked_listed}
 use Rattle.search.proofs.Patterns.{without_witness}
 use Rattle.search.proofs.Printing.{put_back, blank_besides, printing_undone, printing_found, printing_skip}
 use Rattle.search.proofs.trials.Trial.print_again.Goals as goal
-use Rattle.search.proofs.trials.Trial.print_again.Goals.{In_default, After-look, then-may_change+in-Some, else-may_change}
+use Rattle.search.proofs.trials.Trial.print_again.Goals.{In_default, After-look, then-changes+in-Some, else-changes}
 
 pub look-requires-clause-inside : goal.look-requires-clause-inside
 look-requires-clause-inside c = listed_inside _ c.loop-lack.lack-items c.loop-lack.invariant.listed c.loop-lack.lack-index (omega arith)
@@ -69,25 +72,28 @@ loop-lack-preserved c =
     let so_far = c.loop-lack.invariant in
     let below : i < length ls = omega arith in
     let at = listed_at s ls so_far.listed i below in
-    elim c.if-may_change.branch [
-      | then-may_change+in-Some w ↦
+    elim c.if-changes.branch [
+      | then-changes+in-Some w ↦
           let kept = rw (w.deref.ensures.value, so_far.pattern) at w.in-Some.ensures.found in
           record {
             pattern = so_far.pattern;
-            listed = looked_listed s ls c.if-may_change.lack-items i (Some w.in-Some.moves) w.lack-items-is so_far.listed;
+            listed = looked_listed s ls c.if-changes.lack-items i (Some w.in-Some.moves) w.lack-items-is so_far.listed;
             roomy = rw w.scratch-is w.look.ensures.room;
-            so_far = printing_found s h d ls i so_far.so_far below at c.if-may_change.lack-items w.in-Some.moves w.lack-items-is kept;
+            known = rw w.lack-items-is (All-set (λ (l : Lacking). is_some l.moves ≡ true) ls i _ refl so_far.known);
+            so_far = printing_found s h d ls i so_far.so_far below at c.if-changes.lack-items w.in-Some.moves w.lack-items-is kept;
           }
-      | else-may_change w ↦
+      | else-changes w ↦
           let same = w.lack-items-is ∙ set-get_or ls i (unknown 0) in
-          let unmoved = c.may_change.ensures w.if-may_change.false in
+          let (m, is, says) = c.changes.ensures in
+          let unmoved = sym says ∙ w.if-changes.false in
           let width : c.columns-columns.result ≡ s.columns = c.columns-columns.ensures ∙ ap (λ t. (model t).columns) c.survey.ensures in
           let inside : d < size s = rw (← c.self.view_is) at c.requires.inside in
           record {
             pattern = so_far.pattern;
             listed = ap cells_lacking same ∙ so_far.listed;
             roomy = rw w.scratch-is so_far.roomy;
-            so_far = rw same (printing_skip s h d ls i so_far.so_far below at unmoved.0 unmoved.1 (rw width at unmoved.2) c.self.inside.table.now.survey.some_columns inside);
+            known = rw same so_far.known;
+            so_far = rw same (printing_skip s h d ls i so_far.so_far below at m is (rw width at unmoved) c.self.inside.table.now.survey.some_columns inside);
           }
     ]
 

@@ -2,7 +2,7 @@
 use Rattle.std.proofs.Common.{◌≡◌, false, set}
 use Rattle.survey.specs.Model.{model, size}
 use Rattle.cut.specs.Scratched.{Roomy}
-use Rattle.search.specs.Lacking.{cells_lacking, lacking_cells}
+use Rattle.search.specs.Lacking.{AllKnown, cells_lacking, lacking_cells}
 use Rattle.search.proofs.Printing.{Printing}
 use Rattle.search.proofs.trials.Trial.print_again.Given as goal
 
@@ -14,4 +14,5 @@ invariant-loop-lack l =
       listed : cells_lacking l.lack-items ≡ lacking_cells s;
       roomy : Roomy (size s) l.scratch;
       so_far : Printing s l.fn.self.pattern l.cell l.lack-items l.lack-index;
+      known : AllKnown l.lack-items;
     }

@@ -10,7 +10,7 @@ pub loop-ranked-init : goal.loop-ranked-init
 loop-ranked-init c =
     let all : c.into_iter-ranked-iterator.result.iter.rest.now ≡ take c.args.k c.args.order.now = cc in
     let long : length (take c.args.k c.args.order.now) ≡ c.args.k = length-take-le c.args.k c.args.order.now c.requires.within in
-    record { can = tt; ends = tt; same = refl; left = rw (all, long) refl; come = rw (all, long) (come_first _ _ _ _) }
+    record { can = tt; ends = tt; same = refl; known = c.requires.known; left = rw (all, long) refl; come = rw (all, long) (come_first _ _ _ _) }
 
 pub print_again-requires-clause-inside : goal.print_again-requires-clause-inside
 print_again-requires-clause-inside c =
@@ -31,6 +31,7 @@ loop-ranked-preserved c =
       can = tt;
       ends = tt;
       same = c.print_again.ensures.same ∙ c.loop-ranked.invariant.same;
+      known = c.print_again.ensures.keeps;
       left = last.left;
       come = come_tried _ _ _ _ _ _ _ _ c.print_again.result last.long c.loop-ranked.invariant.come (rw (c.loop-ranked.invariant.same, this) at c.print_again.ensures.tried);
     }
