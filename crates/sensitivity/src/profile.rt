@@ -16,7 +16,7 @@ pub struct Profile {
 pub fn open_above(percent: u8, turnover: u32) -> u64
     ensures { result ≡ open_above percent turnover }
 {
-    (turnover as u64 * percent as u64).div_ceil(100)
+    (turnover as u64 * percent as u64 + 99) / 100
 }
 
 impl Profile {

@@ -4,7 +4,7 @@ pub mod Cells
 pub mod Facts
 pub mod Lending
 mod Marks
-mod Pushed
+pub mod Pushed
 pub mod Spans
 pub mod Totals
 pub mod Witnesses

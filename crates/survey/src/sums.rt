@@ -1,9 +1,9 @@
 // The sums of a survey: of each cell, of a row, of a column, and of all.
-ghost use Rattle.std.specs.Prelude.{◌≡◌, ℕ, ◌^◌, ◌<◌, ◌≤◌, Bool, length, filter, sum_by, slice_index};
+ghost use Rattle.std.specs.Prelude.{◌≡◌, ℕ, ◌^◌, ◌<◌, ◌≤◌, Bool, length, sum_by, slice_index};
 ghost use Rattle.survey.specs.Lending.{Written, Fills};
 ghost use Rattle.survey.specs.Model.{model, size};
 ghost use Rattle.survey.specs.Page.{true_sum};
-ghost use Rattle.survey.specs.Survey.{sum_of_all, row_sum, column_sum};
+ghost use Rattle.survey.specs.Survey.{pick, sum_of_all, row_sum, column_sum};
 ghost use Rattle.survey.specs.declared.refusal.Lent.TheVariants.{Sums};
 ghost use Rattle.survey.specs.declared.refusal.Refusal.TheVariants.{Short};
 
@@ -79,12 +79,18 @@ impl Survey {
     // The sum of the workshops in the cells of which the test holds.
     fn sum_where<F: Fn(usize) -> bool>(&self, test: F) -> u64
         requires { F.IsAlwaysCallable test }
-        ensures { (holds : ℕ → Bool) → ((c : ℕ) (b : Bool) → F.post test c b → b ≡ holds c) → result ≡ sum_by (λ w. w.turnover) (filter (λ w. holds w.cell) self.now.workshops.items) }
+        ensures { (holds : ℕ → Bool) → ((c : ℕ) (b : Bool) → F.post test c b → b ≡ holds c) → result ≡ sum_by (λ w. pick (holds w.cell) w.turnover 0) self.now.workshops.items }
     {
+        // one pass: with a filter before it the compiler makes two loops of it, one in the other
         self.workshops
             .iter()
-            .filter(|workshop| test(workshop.cell as usize))
-            .map(amount)
+            .map(|workshop| {
+                if test(workshop.cell as usize) {
+                    amount(workshop)
+                } else {
+                    0
+                }
+            })
             .sum()
     }
 
@@ -92,14 +98,16 @@ impl Survey {
     pub fn row_sum(&self, row: usize) -> u64
         ensures { result ≡ row_sum (model self.now).columns (model self.now).cells (model self.now).values row }
     {
-        self.sum_where(|cell| cell / self.columns == row)
+        let columns = self.columns;
+        self.sum_where(|cell| cell / columns == row)
     }
 
     // The sum of a column, 0 for one past the table.
     pub fn column_sum(&self, column: usize) -> u64
         ensures { result ≡ column_sum (model self.now).columns (model self.now).cells (model self.now).values column }
     {
-        self.sum_where(|cell| cell % self.columns == column)
+        let columns = self.columns;
+        self.sum_where(|cell| cell % columns == column)
     }
 
     // The sum of all turnovers.
